@@ -1,0 +1,28 @@
+// The money side: one interface by its meaning.
+ghost use mathlib.Core.Path.{_≡_};
+ghost use lib.ListN.{length};
+ghost use Rattle.money.specs.Funds.{Funds, Sound, payment, answered, left, asked, account, balance};
+use refusals::Refusal;
+
+pub trait Money {
+    ghost meaning: { Self → Funds };
+
+    ghost sound: { (s : Self) → Sound (meaning s) };
+
+    // How many participants there are.
+    fn participants(&self) -> usize
+        ensures { λ r. ⌜ r ≡ length (meaning (now (self .entry)) .accounts) ⌝ };
+
+    // A participant's account.
+    fn account(&self, participant: usize) -> Result<usize, Refusal>
+        ensures { λ r. ⌜ r ≡ asked (meaning (now (self .entry))) participant (account (meaning (now (self .entry))) participant) ⌝ };
+
+    // The balance of a participant's account.
+    fn balance(&self, participant: usize) -> Result<u64, Refusal>
+        ensures { λ r. ⌜ r ≡ asked (meaning (now (self .entry))) participant (balance (meaning (now (self .entry))) participant) ⌝ };
+
+    // The payer pays the payee.
+    fn pay(&mut self, payer: usize, payee: usize, amount: u64) -> Result<(), Refusal>
+        ensures answer { λ r. ⌜ r ≡ answered (payment (meaning (now (self .entry))) payer payee amount) ⌝ }
+        ensures after { λ r. ⌜ meaning (now (self .exit)) ≡ left (meaning (now (self .entry))) (payment (meaning (now (self .entry))) payer payee amount) ⌝ };
+}
