@@ -16,9 +16,9 @@ lengths = 31 ∷ 28 ∷ 31 ∷ 30 ∷ 31 ∷ 30 ∷ 31 ∷ 31 ∷ 30 ∷ 31 ∷ 
 abbrev pub month-length : ℕ → ℕ → ℕ
 month-length year month = cond (eqb month 2 && eqb (year % 4) 0) 29 (getD lengths (month - 1) 0)
 
--- the number YYYYMMDD of a day
-abbrev pub date-number : ℕ → ℕ → ℕ → ℕ
-date-number year month day = year * 10000 + month * 100 + day
+-- the number YYYYMM00 of a month; that of its day d is d more
+abbrev pub month-number : ℕ → ℕ → ℕ
+month-number year month = year * 10000 + month * 100
 
 -- a number names a day of the calendar year: a month 1 to 12, a day 1 to the month's length
 abbrev pub is-date : ℕ → Bool
@@ -63,3 +63,7 @@ Rising-above low (b ∷ bs) = (low < b) × Rising-above b bs
 abbrev pub All-dates : List ℕ → Type 0
 All-dates [] = Unit {0}
 All-dates (b ∷ bs) = (is-date b ≡ true) × All-dates bs
+
+-- business days rise, and each is a calendar date
+abbrev pub Lawful-days : List ℕ → Type 0
+Lawful-days bs = Rising-above 0 bs × All-dates bs

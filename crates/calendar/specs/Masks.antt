@@ -4,32 +4,29 @@ use mathlib.Core.List.{List, [], _∷_, _++_}
 use Prim.Native.Nat.{ℕ, zero, suc, _+_, _-_, _*_, _/_, _%_, _^_}
 use lib.Dec.{eqb, leb, ltb}
 use lib.ListN.{length}
-use Rattle.calendar.specs.Days.{month-length, date-number}
+use Rattle.calendar.specs.Days.{month-length, month-number}
 
--- months are counted from 0: the year of a month, and its number in the year
-abbrev pub year-of : ℕ → ℕ → ℕ
-year-of first i = first + i / 12
-
-abbrev pub month-of : ℕ → ℕ
-month-of i = i % 12 + 1
+-- months are counted from 0, twelve to a year: a month's number YYYYMM00
+abbrev pub number-of : ℕ → ℕ → ℕ
+number-of first i = month-number (first + i / 12) (i % 12 + 1)
 
 -- the length of a month
 abbrev pub length-of : ℕ → ℕ → ℕ
-length-of first i = month-length (year-of first i) (month-of i)
+length-of first i = month-length (first + i / 12) (i % 12 + 1)
 
 -- whether the bit of day d is set, whose weight is 2^(d-1)
 abbrev pub is-set : ℕ → ℕ → Bool
 is-set mask d = eqb (mask / 2 ^ (d - 1) % 2) 1
 
 -- of n days of a month, the first being d, those whose bit is set
-abbrev pub days-from : ℕ → ℕ → ℕ → ℕ → ℕ → List ℕ
-days-from year month mask d zero = []
-days-from year month mask d (suc n) =
-    cond (is-set mask d) (date-number year month d ∷ days-from year month mask (d + 1) n) (days-from year month mask (d + 1) n)
+abbrev pub days-from : ℕ → ℕ → ℕ → ℕ → List ℕ
+days-from month mask d zero = []
+days-from month mask d (suc n) =
+    cond (is-set mask d) ((month + d) ∷ days-from month mask (d + 1) n) (days-from month mask (d + 1) n)
 
 -- the business days of a month: of its days 1 to the last, those whose bit is set
 abbrev pub days-in : ℕ → ℕ → ℕ → List ℕ
-days-in first i mask = days-from (year-of first i) (month-of i) mask 1 (length-of first i)
+days-in first i mask = days-from (number-of first i) mask 1 (length-of first i)
 
 -- the business days of the months from i on
 abbrev pub months-from : ℕ → ℕ → List ℕ → List ℕ

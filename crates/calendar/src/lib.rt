@@ -33,7 +33,8 @@ const LENGTHS: [u32; 12] = [31, 28, 31, 30, 31, 30, 31, 31, 30, 31, 30, 31];
 // The length of a month: February has 29 days in years divisible by 4.
 fn month_length(year: u32, month: u32) -> u32
     requires { ⌜ 1 ≤ month ⌝ ∗ ⌜ month ≤ 12 ⌝ }
-    ensures { λ r. ⌜ r ≡ month-length year month ⌝ }
+    ensures is { λ r. ⌜ r ≡ month-length year month ⌝ }
+    ensures short { λ r. ⌜ r ≤ 31 ⌝ }
 {
     if month == 2 && year % 4 == 0 {
         29
