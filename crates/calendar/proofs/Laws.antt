@@ -21,13 +21,13 @@ getD-short [] a k = omega arith
 getD-short (x ∷ xs) a zero = a .0
 getD-short (x ∷ xs) a (suc k) = getD-short xs (a .1) k
 
-short : (year month : ℕ) → month-length year month ≤ 31
+pub short : (year month : ℕ) → month-length year month ≤ 31
 short year month =
     cond-both (eqb month 2 && eqb (year % 4) 0) 29 (getD lengths (month - 1) 0) (λ n. n ≤ 31) (λ e. omega arith)
     (λ e. getD-short lengths (search arith) (month - 1))
 
 -- days rise, and what follows them rises above them
-rising-days : (month mask n d low : ℕ) (ys : List ℕ) → low < month + d → ((l : ℕ) → l < month + d + n → Rising-above l ys)
+pub rising-days : (month mask n d low : ℕ) (ys : List ℕ) → low < month + d → ((l : ℕ) → l < month + d + n → Rising-above l ys)
     → Rising-above low (days-from month mask d n ++ ys)
 rising-days month mask zero d low ys h after = after low (omega arith)
 rising-days month mask (suc n) d low ys h after =
@@ -35,7 +35,7 @@ rising-days month mask (suc n) d low ys h after =
     [ true ↦ (h, rising-days month mask n (d + 1) (month + d) ys (omega arith) (λ l k. after l (omega (arith, add-suc (month + d) n))))
     | false ↦ rising-days month mask n (d + 1) low ys (omega arith) (λ l k. after l (omega (arith, add-suc (month + d) n))) ]
 
-rising-months : (first : ℕ) (masks : List ℕ) (i low : ℕ) → low ≤ number-of first i → Rising-above low (months-from first i masks)
+pub rising-months : (first : ℕ) (masks : List ℕ) (i low : ℕ) → low ≤ number-of first i → Rising-above low (months-from first i masks)
 rising-months first [] i low h = tt
 rising-months first (mask ∷ masks) i low h =
     rising-days (number-of first i) mask (length-of first i) 1 low (months-from first (i + 1) masks) (omega arith)
@@ -64,7 +64,7 @@ dates-days year month mask (suc n) d a b e f =
     elim (is-set mask d) as (λ s. All-dates (cond s ((month-number year month + d) ∷ days-from (month-number year month) mask (d + 1) n) (days-from (month-number year month) mask (d + 1) n)))
     [ true ↦ (date-at (month-number year month + d) year month d (omega arith) (omega arith) (omega arith) a b e in-month, rest) | false ↦ rest ]
 
-dates-months : (first : ℕ) (masks : List ℕ) (i : ℕ) → All-dates (months-from first i masks)
+pub dates-months : (first : ℕ) (masks : List ℕ) (i : ℕ) → All-dates (months-from first i masks)
 dates-months first [] i = tt
 dates-months first (mask ∷ masks) i =
     dates-append (days-in first i mask) (months-from first (i + 1) masks)
@@ -75,7 +75,7 @@ pub lawful : (first : ℕ) (masks : List ℕ) → Lawful-days (business-days fir
 lawful first masks = (rising-months first masks 0 0 (omega arith), dates-months first masks 0)
 
 -- a date below all of a rising list is none of it
-below-none : (d low : ℕ) (bs : List ℕ) → Rising-above low bs → d ≤ low → is-business d bs ≡ false
+pub below-none : (d low : ℕ) (bs : List ℕ) → Rising-above low bs → d ≤ low → is-business d bs ≡ false
 below-none d low [] r h = refl
 below-none d low (b ∷ bs) r h = grind (arith, tells, r .0, below-none d b bs (r .1) (omega (arith, r .0)))
 

@@ -1,3 +1,4 @@
 pub mod Walks
 pub mod Counts
 pub mod Laws
+pub mod Marks

@@ -3,8 +3,9 @@ use mathlib.Core.Bool.{Bool, true, false, cond, _&&_, _||_}
 use mathlib.Core.List.{List, [], _∷_, _++_}
 use Prim.Native.Nat.{ℕ, zero, suc, _+_, _-_, _*_, _/_, _%_, _^_}
 use lib.Dec.{eqb, leb, ltb}
-use lib.ListN.{length}
-use Rattle.calendar.specs.Days.{month-length, month-number}
+use lib.ListN.{length, getD}
+use mathlib.Core.Path.{_≡_}
+use Rattle.calendar.specs.Days.{month-length, month-number, is-date, is-business, Lawful-days}
 
 -- months are counted from 0, twelve to a year: a month's number YYYYMM00
 abbrev pub number-of : ℕ → ℕ → ℕ
@@ -52,3 +53,18 @@ abbrev pub fits : ℕ → ℕ → List ℕ → Bool
 fits first years masks =
     ((leb 2000 first && leb first 2080) && (leb 1 years && leb years 20))
     && (eqb (length masks) (12 * years) && (within-months first 0 masks && some-set masks))
+
+-- whether a number is a calendar date, not before the first year, whose bit is set in its month's mask
+abbrev pub is-marked : ℕ → List ℕ → ℕ → Bool
+is-marked first masks n =
+    (is-date n && leb first (n / 10000)) && is-set (getD masks ((n / 10000 - first) * 12 + (n / 100 % 100 - 1)) 0) (n % 100)
+
+-- the business days are exactly the dates that the masks mark
+abbrev pub As-marked : ℕ → List ℕ → Type 0
+As-marked first masks = (n : ℕ) → is-business n (business-days first masks) ≡ is-marked first masks n
+
+-- the business days of a new calendar: those of its masks, which rise, are calendar dates, and are as marked
+pub record Made (first : ℕ) (masks days : List ℕ) : Type 0 where
+  pub same : days ≡ business-days first masks
+  pub lawful : Lawful-days days
+  pub marked : As-marked first masks

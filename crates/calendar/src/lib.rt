@@ -3,7 +3,7 @@ ghost use mathlib.Core.Path.{_≡_};
 ghost use Prim.Native.Nat.{_≤_};
 ghost use Rattle.calendar.specs.Days.{month-length, is-date};
 
-pub mod years;
+mod years;
 
 pub use years::Calendar;
 

@@ -3,8 +3,8 @@ ghost use mathlib.Core.Path.{_≡_};
 ghost use Rattle.std.specs.Of.Vec.{vec-items};
 ghost use Rattle.std.specs.Results.{Cases, isOk};
 ghost use Rattle.refusals.specs.declared.Refusal.the-variants.{CalendarLimits};
-ghost use Rattle.calendar.specs.Days.{is-business, first-from, next-after, count-between, Lawful-days};
-ghost use Rattle.calendar.specs.Masks.{business-days, fits};
+ghost use Rattle.calendar.specs.Days.{is-business, first-from, next-after, count-between};
+ghost use Rattle.calendar.specs.Masks.{fits, Made};
 ghost use Rattle.calendar.specs.Calendars.{days-of, dated};
 use crate::Date;
 use crate::years::Calendar;
@@ -18,7 +18,7 @@ impl Calendar {
     // sets a bit past its month's end, or if no bit is set.
     pub fn new(first_year: u32, years: usize, masks: Vec<u32>) -> Result<Calendar, Refusal>
         ensures limits { λ r. ⌜ isOk r ≡ fits «first_year» years (vec-items masks) ⌝ }
-        ensures cases { λ r. ⌜ Cases r (λ c. (days-of c ≡ business-days «first_year» (vec-items masks)) × Lawful-days (days-of c)) (λ e. e ≡ CalendarLimits) ⌝ }
+        ensures cases { λ r. ⌜ Cases r (λ c. Made «first_year» (vec-items masks) (days-of c)) (λ e. e ≡ CalendarLimits) ⌝ }
     {
         if !fits(first_year, years, masks.as_slice()) {
             return Err(Refusal::CalendarLimits);

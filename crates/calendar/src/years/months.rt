@@ -93,7 +93,7 @@ fn some_set(masks: &[u32]) -> bool
 }
 
 // Whether years and masks make a calendar.
-pub fn fits(first: u32, years: usize, masks: &[u32]) -> bool
+pub(super) fn fits(first: u32, years: usize, masks: &[u32]) -> bool
     ensures { λ r. ⌜ r ≡ fits first years (now (masks .entry)) ⌝ }
 {
     if first < 2000 || first > 2080 || years < 1 || years > 20 || masks.len() != 12 * years {
@@ -103,7 +103,7 @@ pub fn fits(first: u32, years: usize, masks: &[u32]) -> bool
 }
 
 // The number of the first business day whose number is at least `from`.
-pub fn first_from(first: u32, masks: &[u32], from: u64) -> Option<u32>
+pub(super) fn first_from(first: u32, masks: &[u32], from: u64) -> Option<u32>
     requires { ⌜ first ≤ 2080 ⌝ ∗ ⌜ length (now masks) ≤ 240 ⌝ }
     ensures { λ r. ⌜ r ≡ first-from from (business-days first (now (masks .entry))) ⌝ }
 {
@@ -116,7 +116,7 @@ pub fn first_from(first: u32, masks: &[u32], from: u64) -> Option<u32>
 }
 
 // How many business days lie up to a date.
-pub fn count_upto(first: u32, masks: &[u32], upto: u32) -> u32
+pub(super) fn count_upto(first: u32, masks: &[u32], upto: u32) -> u32
     requires { ⌜ first ≤ 2080 ⌝ ∗ ⌜ length (now masks) ≤ 240 ⌝ ∗ ⌜ within-months first 0 (now masks) ≡ true ⌝ }
     ensures { λ r. ⌜ r ≡ count-upto upto (business-days first (now (masks .entry))) ⌝ }
 {
