@@ -64,16 +64,16 @@ count-bit : (x month b d : ℕ) (s : Bool) (bs : List ℕ) → d ≡ month + 1 �
 count-bit x month b d s bs next e rest =
     ⊎-elim
     (λ h.
-      let low : b % 2 < 2 = mod-below b 2 (omega arith) in
-      let more : x - month ≡ suc (x - d) = omega arith in
-      let here : _≡_ {A = ℕ} (cond (s && leb d x) 1 0) (b % 2) = grind (arith, tells) in
-      omega (arith, count-day (λ v. leb v x) s d bs, here, rest, ones-low b (x - d), ap (λ k. ones (b % 2 ^ k)) more))
+    let low : b % 2 < 2 = mod-below b 2 (omega arith) in
+    let more : x - month ≡ suc (x - d) = omega arith in
+    let here : _≡_ {A = ℕ} (cond (s && leb d x) 1 0) (b % 2) = grind (arith, tells) in
+    omega (arith, count-day (λ v. leb v x) s d bs, here, rest, ones-low b (x - d), ap (λ k. ones (b % 2 ^ k)) more))
     (λ h.
-      let none : x - d ≡ 0 = omega arith in
-      let nil : x - month ≡ 0 = omega arith in
-      let here : _≡_ {A = ℕ} (cond (s && leb d x) 1 0) 0 = grind (arith, tells) in
-      let empty : (v : ℕ) → ones (v % 1) ≡ 0 = λ v. ap ones (mod-one v) ∙ ones-zero in
-      omega (arith, count-day (λ v. leb v x) s d bs, here, rest, ap (λ k. ones (b / 2 % 2 ^ k)) none, ap (λ k. ones (b % 2 ^ k)) nil, empty (b / 2), empty b))
+    let none : x - d ≡ 0 = omega arith in
+    let nil : x - month ≡ 0 = omega arith in
+    let here : _≡_ {A = ℕ} (cond (s && leb d x) 1 0) 0 = grind (arith, tells) in
+    let empty : (v : ℕ) → ones (v % 1) ≡ 0 = λ v. ap ones (mod-one v) ∙ ones-zero in
+    omega (arith, count-day (λ v. leb v x) s d bs, here, rest, ap (λ k. ones (b / 2 % 2 ^ k)) none, ap (λ k. ones (b % 2 ^ k)) nil, empty (b / 2), empty b))
     (cases-lt month x)
 
 -- the days of a month up to x are the low bits of its mask
@@ -118,9 +118,10 @@ between-some after upto h (b ∷ bs) =
 between-none : (after upto : ℕ) → upto ≤ after → (bs : List ℕ) → (count-between after upto bs ≡ 0) × (count-upto upto bs ≤ count-upto after bs)
 between-none after upto h [] = (refl, omega arith)
 between-none after upto h (b ∷ bs) =
-    let rest = between-none after upto h bs in
-    (grind (arith, tells, rest, count-day (λ d. ltb after d && leb d upto) true b bs),
-     grind (arith, tells, rest, count-day (λ d. leb d after) true b bs, count-day (λ d. leb d upto) true b bs))
+    let rest = between-none after upto h bs in (
+      grind (arith, tells, rest, count-day (λ d. ltb after d && leb d upto) true b bs),
+      grind (arith, tells, rest, count-day (λ d. leb d after) true b bs, count-day (λ d. leb d upto) true b bs),
+    )
 
 pub between : (after upto : ℕ) (bs : List ℕ) → count-upto upto bs - count-upto after bs ≡ count-between after upto bs
 between after upto bs =

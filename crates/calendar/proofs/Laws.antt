@@ -31,9 +31,10 @@ pub rising-days : (month mask n d low : ℕ) (ys : List ℕ) → low < month + d
     → Rising-above low (days-from month mask d n ++ ys)
 rising-days month mask zero d low ys h after = after low (omega arith)
 rising-days month mask (suc n) d low ys h after =
-    elim (is-set mask d) as (λ s. Rising-above low (cond s ((month + d) ∷ days-from month mask (d + 1) n) (days-from month mask (d + 1) n) ++ ys))
-    [ true ↦ (h, rising-days month mask n (d + 1) (month + d) ys (omega arith) (λ l k. after l (omega (arith, add-suc (month + d) n))))
-    | false ↦ rising-days month mask n (d + 1) low ys (omega arith) (λ l k. after l (omega (arith, add-suc (month + d) n))) ]
+    elim (is-set mask d) as (λ s. Rising-above low (cond s ((month + d) ∷ days-from month mask (d + 1) n) (days-from month mask (d + 1) n) ++ ys)) [
+      | true ↦ (h, rising-days month mask n (d + 1) (month + d) ys (omega arith) (λ l k. after l (omega (arith, add-suc (month + d) n))))
+      | false ↦ rising-days month mask n (d + 1) low ys (omega arith) (λ l k. after l (omega (arith, add-suc (month + d) n)))
+    ]
 
 pub rising-months : (first : ℕ) (masks : List ℕ) (i low : ℕ) → low ≤ number-of first i → Rising-above low (months-from first i masks)
 rising-months first [] i low h = tt

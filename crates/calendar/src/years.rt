@@ -15,5 +15,5 @@ pub struct Calendar {
     ghost within: { within-months first 0 (vec-items masks) ≡ true },
 }
 
-mod months;
 mod methods;
+mod months;

@@ -3,7 +3,7 @@ ghost use mathlib.Core.Path.{_≡_};
 ghost use Rattle.std.specs.Of.Vec.{vec-items};
 ghost use Rattle.std.specs.Results.{Cases, isOk};
 ghost use Rattle.refusals.specs.declared.Refusal.the-variants.{CalendarLimits};
-ghost use Rattle.calendar.specs.Days.{is-business, first-from, next-after, count-between};
+ghost use Rattle.calendar.specs.Days.{is-business, first-from, next-after, count-between, count-upto};
 ghost use Rattle.calendar.specs.Masks.{fits, Made};
 ghost use Rattle.calendar.specs.Calendars.{days-of, dated};
 use crate::Date;
@@ -23,7 +23,10 @@ impl Calendar {
         if !fits(first_year, years, masks.as_slice()) {
             return Err(Refusal::CalendarLimits);
         }
-        Ok(Calendar { first: first_year, masks })
+        Ok(Calendar {
+            first: first_year,
+            masks,
+        })
     }
 
     // Whether a date is a business day.
@@ -54,10 +57,19 @@ impl Calendar {
     pub fn count_between(&self, after: Date, upto: Date) -> u32
         ensures { λ r. ⌜ r ≡ count-between (after .number) (upto .number) (days-of (now (self .entry))) ⌝ }
     {
-        let masks = self.masks.as_slice();
-        count_upto(self.first, masks, upto.number).saturating_sub(count_upto(self.first, masks, after.number))
+        let late = self.count_upto(upto);
+        let early = self.count_upto(after);
+        late.saturating_sub(early)
     }
 
+    // How many business days lie up to a date.
+    fn count_upto(&self, date: Date) -> u32
+        ensures { λ r. ⌜ r ≡ count-upto (date .number) (days-of (now (self .entry))) ⌝ }
+    {
+        count_upto(self.first, self.masks.as_slice(), date.number)
+    }
+
+    // The first business day whose number is at least `from`.
     fn find(&self, from: u64) -> Option<Date>
         ensures { λ r. ⌜ r ≡ dated (first-from from (days-of (now (self .entry)))) ⌝ }
     {

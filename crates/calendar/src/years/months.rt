@@ -26,7 +26,10 @@ fn month_at(first: u32, i: usize) -> Month
 {
     let year = first + (i / 12) as u32;
     let month = (i % 12) as u32 + 1;
-    Month { number: year * 10000 + month * 100, length: month_length(year, month) }
+    Month {
+        number: year * 10000 + month * 100,
+        length: month_length(year, month),
+    }
 }
 
 impl Month {

@@ -11,6 +11,6 @@ returns c = record {
   cases = record {
     same = refl;
     lawful = lawful (c .args .first-year) (vec-items (c .args .masks));
-    marked = as-marked (c .args .first-year) (vec-items (c .args .masks))
-  }
+    marked = as-marked (c .args .first-year) (vec-items (c .args .masks));
+  };
 }

@@ -14,7 +14,7 @@ pub loop-i-again : need.loop-i-again
 loop-i-again c =
     let more = count-more (c .args .first) (c .args .masks .now) (c .loop-i .i) (c .args .upto) (c .loop-i-test .taken) (c .loop-i .inv .2) in
     let same = c .count-upto-count .ensures .is
-        ∙ ap (λ n. ones (getD (c .args .masks .now) (c .loop-i .i) 0 % 2 ^ (c .args .upto - n))) (c .month-at .ensures .number) in
+    ∙ ap (λ n. ones (getD (c .args .masks .now) (c .loop-i .i) 0 % 2 ^ (c .args .upto - n))) (c .month-at .ensures .number) in
     (omega (arith, more, same, c .loop-i .inv .0), omega (arith, c .loop-i .inv .1, c .count-upto-count .ensures .few), within-rest (c .args .first) (c .args .masks .now) (c .loop-i .i) (c .loop-i-test .taken) (c .loop-i .inv .2) .1)
 
 pub returns : need.returns
