@@ -1,6 +1,6 @@
 -- Business days counted by the bits of the masks.
 use mathlib.Core.Path.{_≡_, refl, sym, ap, _∙_}
-use mathlib.Core.Logic.{_⊎_, inl, inr, ⊎-elim}
+use mathlib.Core.Logic.{⊎-elim}
 use mathlib.Core.Bool.{Bool, true, false, cond, _&&_}
 use mathlib.Core.List.{List, [], _∷_, _++_}
 use Prim.Native.Nat.{ℕ, zero, suc, _+_, _-_, _*_, _/_, _%_, _^_, _<_, _≤_}
@@ -15,7 +15,7 @@ use lib.Pow.{pow-mono}
 use lib.ListN.{length, getD, drop}
 use Rattle.std.proofs.shelf.Bits.{and-mask, and-le-l, one-shl, mod-pow-add, shr-shr, shr-below, div-mul-add, mod-mul-add, mod-below}
 use Rattle.std.proofs.shelf.Lists.{at-drop-more}
-use Rattle.std.proofs.shelf.Tests.{cases-lt, lt-leb, le-leb}
+use Rattle.std.proofs.shelf.Tests.{cases-lt}
 use Rattle.std.proofs.shelf.Ways.{tells}
 use Rattle.calendar.specs.Days.{passing, count-upto, count-between}
 use Rattle.calendar.specs.Masks.{is-set, number-of, length-of, days-from, days-in, months-from, within-months}

@@ -1,19 +1,19 @@
 -- The business days are exactly the dates that the masks mark.
 use mathlib.Core.Path.{_≡_, refl, sym, ap, _∙_}
-use mathlib.Core.Logic.{_⊎_, inl, inr, ⊎-elim}
+use mathlib.Core.Logic.{_⊎_, inl, inr}
 use mathlib.Core.Bool.{Bool, true, false, cond, _&&_, _||_}
 use mathlib.Core.List.{List, [], _∷_, _++_}
 use Prim.Native.Nat.{ℕ, zero, suc, _+_, _-_, _*_, _/_, _%_, _^_, _<_, _≤_}
 use native.Mathlib.Nat.{add-suc, zero-div}
 use native.Mathlib.Omega.{arith}
-use lib.Dec.{eqb, leb, ltb}
-use lib.ListN.{length, getD}
-use Rattle.std.proofs.shelf.Tests.{and-parts, and-left, and-right, leb-true, leb-false, ne-eqb, true≢false, cases-order}
+use lib.Dec.{eqb, leb}
+use lib.ListN.{getD}
+use Rattle.std.proofs.shelf.Tests.{and-parts, leb-true, leb-false, ne-eqb, true≢false, cases-order}
 use Rattle.std.proofs.shelf.Bits.{div-mul-add, mod-mul-add}
 use Rattle.std.proofs.shelf.Ways.{tells}
-use Rattle.calendar.specs.Days.{month-length, month-number, is-date, is-business, Rising-above, All-dates}
-use Rattle.calendar.specs.Masks.{is-set, number-of, length-of, days-from, days-in, months-from, business-days, is-marked, As-marked}
-use Rattle.calendar.proofs.Laws.{rising-days, rising-months, dates-months, below-none, short}
+use Rattle.calendar.specs.Days.{month-length, is-date, is-business, All-dates}
+use Rattle.calendar.specs.Masks.{is-set, number-of, length-of, days-from, days-in, months-from, business-days, As-marked}
+use Rattle.calendar.proofs.Laws.{rising-months, dates-months, below-none, short}
 
 business-append : (x : ℕ) (xs ys : List ℕ) → is-business x (xs ++ ys) ≡ (is-business x xs || is-business x ys)
 business-append x [] ys = refl

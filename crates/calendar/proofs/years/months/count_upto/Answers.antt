@@ -1,6 +1,6 @@
-use mathlib.Core.Path.{_≡_, sym, ap, _∙_}
+use mathlib.Core.Path.{ap, _∙_}
 use native.Mathlib.Omega.{arith}
-use Prim.Native.Nat.{_+_, _-_, _%_, _^_}
+use Prim.Native.Nat.{_-_, _%_, _^_}
 use lib.Count.{ones}
 use lib.ListN.{getD}
 use Rattle.std.proofs.shelf.Lists.{at-drop-all}

@@ -1,7 +1,6 @@
 use native.Mathlib.Omega.{arith}
 use lib.Count.{ones-le}
-use lib.Dec.{lit<}
-use Prim.Native.Nat.{_-_, _*_, _%_, _^_, _≤_}
+use Prim.Native.Nat.{_-_, _*_, _%_, _^_}
 use Rattle.calendar.proofs.Counts.{low-ones, all-ones, low-few}
 use Rattle.calendar.proofs.years.months.Month.count_upto.Needs as need
 
