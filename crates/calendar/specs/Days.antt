@@ -1,7 +1,8 @@
 -- Dates, and the business days of a calendar.
 use mathlib.Core.Bool.{Bool, true, false, cond, _&&_, _||_}
-use mathlib.Core.List.{List, [], _∷_, _++_}
-use Prim.Native.Nat.{ℕ, _+_, _-_, _*_, _/_, _%_, _^_}
+use mathlib.Core.List.{List, [], _∷_}
+use Prim.Native.Nat.{ℕ, _+_, _-_, _*_, _/_, _%_, _<_}
+use mathlib.Core.Path.{_≡_}
 use lib.Dec.{eqb, leb, ltb}
 use lib.ListN.{length, getD}
 use Rattle.std.specs.declared.option.Option.{Option}
@@ -15,9 +16,9 @@ lengths = 31 ∷ 28 ∷ 31 ∷ 30 ∷ 31 ∷ 30 ∷ 31 ∷ 31 ∷ 30 ∷ 31 ∷ 
 abbrev pub month-length : ℕ → ℕ → ℕ
 month-length year month = cond (eqb month 2 && eqb (year % 4) 0) 29 (getD lengths (month - 1) 0)
 
--- the number YYYYMMDD of a day
-abbrev pub date-number : ℕ → ℕ → ℕ → ℕ
-date-number year month day = year * 10000 + month * 100 + day
+-- the number YYYYMM00 of a month; that of its day d is d more
+abbrev pub month-number : ℕ → ℕ → ℕ
+month-number year month = year * 10000 + month * 100
 
 -- a number names a day of the calendar year: a month 1 to 12, a day 1 to the month's length
 abbrev pub is-date : ℕ → Bool
@@ -30,14 +31,6 @@ is-date n =
 abbrev pub passing : {X : Type 0} → (X → Bool) → List X → List X
 passing f [] = []
 passing f (x ∷ xs) = cond (f x) (x ∷ passing f xs) (passing f xs)
-
--- whether the bit of day d is set, whose weight is 2^(d-1)
-abbrev pub is-set : ℕ → ℕ → Bool
-is-set mask d = eqb (mask / 2 ^ (d - 1) % 2) 1
-
--- the days that a mask has a bit for
-abbrev pub month-days : List ℕ
-month-days = 1 ∷ 2 ∷ 3 ∷ 4 ∷ 5 ∷ 6 ∷ 7 ∷ 8 ∷ 9 ∷ 10 ∷ 11 ∷ 12 ∷ 13 ∷ 14 ∷ 15 ∷ 16 ∷ 17 ∷ 18 ∷ 19 ∷ 20 ∷ 21 ∷ 22 ∷ 23 ∷ 24 ∷ 25 ∷ 26 ∷ 27 ∷ 28 ∷ 29 ∷ 30 ∷ 31 ∷ 32 ∷ []
 
 -- whether a date is a business day, given the business days in order
 abbrev pub is-business : ℕ → List ℕ → Bool
@@ -56,3 +49,21 @@ next-after d bs = first-from (d + 1) bs
 -- how many business days lie after one date and up to another
 abbrev pub count-between : ℕ → ℕ → List ℕ → ℕ
 count-between after upto bs = length (passing (λ b. ltb after b && leb b upto) bs)
+
+-- how many business days lie up to a date
+abbrev pub count-upto : ℕ → List ℕ → ℕ
+count-upto upto bs = length (passing (λ b. leb b upto) bs)
+
+-- each number is above a bound and above all before it
+abbrev pub Rising-above : ℕ → List ℕ → Type 0
+Rising-above low [] = Unit {0}
+Rising-above low (b ∷ bs) = (low < b) × Rising-above b bs
+
+-- each number is a calendar date
+abbrev pub All-dates : List ℕ → Type 0
+All-dates [] = Unit {0}
+All-dates (b ∷ bs) = (is-date b ≡ true) × All-dates bs
+
+-- business days rise, and each is a calendar date
+abbrev pub Lawful-days : List ℕ → Type 0
+Lawful-days bs = Rising-above 0 bs × All-dates bs
