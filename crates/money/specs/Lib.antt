@@ -1,1 +1,4 @@
 pub mod Funds
+pub mod Ledger
+pub mod Agents
+pub mod Soundness

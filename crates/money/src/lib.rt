@@ -1,8 +1,13 @@
-// The money side: one interface by its meaning.
+// The money side: one interface by its meaning, a ledger, and agent tables on any money side.
+pub mod agents;
+pub mod ledger;
 ghost use mathlib.Core.Path.{_≡_};
 ghost use lib.ListN.{length};
 ghost use Rattle.money.specs.Funds.{Funds, Sound, payment, answered, left, asked, account, balance};
 use refusals::Refusal;
+
+// The most that a payment may move.
+pub const MOST_AMOUNT: u64 = 100_000_000_000_000_000;
 
 pub trait Money {
     ghost meaning: { Self → Funds };

@@ -1,0 +1,3 @@
+pub mod Payments
+pub mod Ledgers
+pub mod Tables
