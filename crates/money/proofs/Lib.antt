@@ -1,3 +1,4 @@
 pub mod Payments
 pub mod Ledgers
 pub mod Tables
+pub mod Lawful

@@ -2,3 +2,4 @@ pub mod Funds
 pub mod Ledger
 pub mod Agents
 pub mod Soundness
+pub mod Laws

@@ -1,6 +1,7 @@
 // The money side: one interface by its meaning, a ledger, and agent tables on any money side.
 pub mod agents;
 pub mod ledger;
+pub mod transfers;
 ghost use mathlib.Core.Path.{_≡_};
 ghost use lib.ListN.{length};
 ghost use Rattle.money.specs.Funds.{Funds, Sound, payment, answered, left, asked, account, balance};
