@@ -1,5 +1,6 @@
 -- Questions and payments on a ledger.
 use mathlib.Core.Path.{_≡_, refl, sym, ap, _∙_}
+use mathlib.Core.Bool.{true, false}
 use mathlib.Core.Logic.{_⊎_, inl, inr, ⊎-elim}
 use mathlib.Core.List.{List}
 use Prim.Native.Nat.{ℕ, _+_, _-_, _≤_, _<_}
@@ -11,7 +12,7 @@ use Rattle.std.proofs.shelf.Lists.{length-set, getD-set-other}
 use Rattle.std.proofs.shelf.Sums.{sumBy-set}
 use Rattle.std.proofs.shelf.Counted.{length-counting, getD-counting}
 use Rattle.refusals.specs.declared.Refusal.the-variants.{UnknownParticipant, AmountLimits, MoneyShort}
-use Rattle.money.specs.Funds.{Funds, payment, account, balance, asked, moved, shifted}
+use Rattle.money.specs.Funds.{Funds, payment, payable, account, balance, asked, moved, shifted}
 use Rattle.money.specs.Ledger.{of-ledger}
 use Rattle.money.proofs.Payments.{asked-known, asked-unknown, payment-unknown, payment-amount, payment-same, payment-short, payment-moves}
 
@@ -52,18 +53,18 @@ module _ (bs : List ℕ) (n : ℕ) (e : n ≡ length bs) where
     pays-unknown h = payment-unknown (of-ledger bs) payer payee amount (⊎-elim (λ a. inl (omega (arith, ledger-length))) (λ a. inr (omega (arith, ledger-length))) h)
 
     module _ (hp : payer < n) (hq : payee < n) where
-      pub pays-amount : (amount < 1) ⊎ (100000000000000000 < amount) → payment (of-ledger bs) payer payee amount ≡ Err AmountLimits
+      pub pays-amount : payable amount ≡ false → payment (of-ledger bs) payer payee amount ≡ Err AmountLimits
       pays-amount h = payment-amount (of-ledger bs) payer payee amount (omega (arith, ledger-length)) (omega (arith, ledger-length)) h
 
-      module _ (low : 1 ≤ amount) (high : amount ≤ 100000000000000000) where
+      module _ (may : payable amount ≡ true) where
         pub pays-same : payer ≡ payee → payment (of-ledger bs) payer payee amount ≡ Ok (of-ledger bs)
-        pays-same h = payment-same (of-ledger bs) payer payee amount (omega (arith, ledger-length)) (omega (arith, ledger-length)) low high (ap (account (of-ledger bs)) h)
+        pays-same h = payment-same (of-ledger bs) payer payee amount (omega (arith, ledger-length)) (omega (arith, ledger-length)) may (ap (account (of-ledger bs)) h)
 
         apart : (payer ≡ payee → ⊥) → account (of-ledger bs) payer ≡ account (of-ledger bs) payee → ⊥
         apart ne z = ne (omega (arith, z, ledger-account payer hp, ledger-account payee hq))
 
         pub pays-short : (payer ≡ payee → ⊥) → getD bs payer 0 < amount → payment (of-ledger bs) payer payee amount ≡ Err MoneyShort
-        pays-short ne h = payment-short (of-ledger bs) payer payee amount (omega (arith, ledger-length)) (omega (arith, ledger-length)) low high (apart ne) (omega (arith, ledger-balance payer hp))
+        pays-short ne h = payment-short (of-ledger bs) payer payee amount (omega (arith, ledger-length)) (omega (arith, ledger-length)) may (apart ne) (omega (arith, ledger-balance payer hp))
 
         moves : of-ledger (shifted bs payer payee amount) ≡ moved (of-ledger bs) (account (of-ledger bs) payer) (account (of-ledger bs) payee) amount
         moves =
@@ -73,4 +74,4 @@ module _ (bs : List ℕ) (n : ℕ) (e : n ≡ length bs) where
             rw (l, ax, ay) refl
 
         pub pays-moved : (payer ≡ payee → ⊥) → amount ≤ getD bs payer 0 → payment (of-ledger bs) payer payee amount ≡ Ok (of-ledger (shifted bs payer payee amount))
-        pays-moved ne h = payment-moves (of-ledger bs) payer payee amount (omega (arith, ledger-length)) (omega (arith, ledger-length)) low high (apart ne) (omega (arith, ledger-balance payer hp)) ∙ ap Ok (sym moves)
+        pays-moved ne h = payment-moves (of-ledger bs) payer payee amount (omega (arith, ledger-length)) (omega (arith, ledger-length)) may (apart ne) (omega (arith, ledger-balance payer hp)) ∙ ap Ok (sym moves)

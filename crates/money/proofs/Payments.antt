@@ -12,7 +12,7 @@ use Rattle.std.proofs.shelf.Lists.{take-all}
 use Rattle.std.proofs.shelf.Ways.{tells}
 use Rattle.refusals.specs.declared.Refusal.{Refusal}
 use Rattle.refusals.specs.declared.Refusal.the-variants.{UnknownParticipant, AmountLimits, MoneyShort}
-use Rattle.money.specs.Funds.{Funds, payment, account, balance, asked, moved}
+use Rattle.money.specs.Funds.{Funds, payment, payable, account, balance, asked, moved}
 
 pub asked-known : (f : Funds) (p x : ℕ) → p < length (f .accounts) → asked f p x ≡ Ok x
 asked-known f p x h = grind (arith, tells)
@@ -33,11 +33,11 @@ module _ (f : Funds) (payer payee amount : ℕ) where
   payment-unknown h = grind (arith, tells)
 
   module _ (hp : payer < length (f .accounts)) (hq : payee < length (f .accounts)) where
-    pub payment-amount : (amount < 1) ⊎ (100000000000000000 < amount) → payment f payer payee amount ≡ Err AmountLimits
+    pub payment-amount : payable amount ≡ false → payment f payer payee amount ≡ Err AmountLimits
     unfolding payment
     payment-amount h = grind (arith, tells)
 
-    module _ (low : 1 ≤ amount) (high : amount ≤ 100000000000000000) where
+    module _ (may : payable amount ≡ true) where
       pub payment-same : account f payer ≡ account f payee → payment f payer payee amount ≡ Ok f
       unfolding payment
       payment-same e = grind (arith, tells)

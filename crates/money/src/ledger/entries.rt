@@ -1,6 +1,9 @@
 ghost use mathlib.Core.Path.{_≡_};
-ghost use Rattle.std.specs.Of.Vec.{vec-items};
-ghost use Rattle.money.specs.Funds.{Funds, Sound, payment, answered, left, asked};
+ghost use Prim.Native.Nat.{ℕ, _≤_, _<_};
+ghost use lib.Dec.{leb};
+ghost use lib.ListN.{getD};
+ghost use Rattle.std.specs.Of.Vec.{vec-len, vec-items};
+ghost use Rattle.money.specs.Funds.{payable, shifted};
 ghost use Rattle.money.specs.Ledger.{ledger-funds, Opened};
 ghost use Rattle.money.specs.Soundness.{ledger-sound};
 use super::Ledger;
@@ -27,6 +30,34 @@ impl Ledger {
         }
         Ok(Ledger { balances })
     }
+
+    // Moves an amount that the payer's balance covers to another account.
+    fn shift(&mut self, payer: usize, payee: usize, amount: u64)
+        requires apart { ⌜ (payer ≡ payee → ⊥) ⌝ }
+        requires payer { ⌜ payer < vec-len (now self .balances) ⌝ }
+        requires payee { ⌜ payee < vec-len (now self .balances) ⌝ }
+        requires covered { ⌜ amount ≤ getD (vec-items (now self .balances)) payer 0 ⌝ }
+        ensures { λ _. ⌜ vec-items (now (self .exit) .balances) ≡ shifted (vec-items (now (self .entry) .balances)) payer payee amount ⌝ }
+    {
+        let from = self.balances[payer];
+        let to = self.balances[payee];
+        self.balances[payer] = from - amount;
+        self.balances[payee] = to + amount;
+    }
+}
+
+// Whether an amount may be paid at all.
+fn payable(amount: u64) -> bool
+    ensures { λ r. ⌜ r ≡ payable amount ⌝ }
+{
+    1 <= amount && amount <= MOST_AMOUNT
+}
+
+// Whether a balance covers an amount.
+fn covers(balance: u64, amount: u64) -> bool
+    ensures { λ r. ⌜ r ≡ leb amount balance ⌝ }
+{
+    amount <= balance
 }
 
 pub impl Money for Ledger as LedgerMoney {
@@ -59,19 +90,16 @@ pub impl Money for Ledger as LedgerMoney {
         if payer >= n || payee >= n {
             return Err(Refusal::UnknownParticipant);
         }
-        if amount < 1 || amount > MOST_AMOUNT {
+        if !payable(amount) {
             return Err(Refusal::AmountLimits);
         }
         if payer == payee {
             return Ok(());
         }
-        let from = self.balances[payer];
-        if from < amount {
+        if !covers(self.balances[payer], amount) {
             return Err(Refusal::MoneyShort);
         }
-        let to = self.balances[payee];
-        self.balances[payer] = from - amount;
-        self.balances[payee] = to + amount;
+        self.shift(payer, payee, amount);
         Ok(())
     }
 }
