@@ -1,32 +1,19 @@
 -- Every payment on sound funds is lawful.
-use mathlib.Core.Path.{_≡_, refl, sym, ap, _∙_}
-use mathlib.Core.Bool.{Bool, true, false, cond, _&&_}
-use mathlib.Core.List.{List}
-use Prim.Native.Nat.{ℕ, _+_, _-_, _≤_, _<_}
+use mathlib.Core.Path.{_≡_, refl}
+use mathlib.Core.Bool.{_&&_}
+use Prim.Native.Nat.{ℕ, _≤_, _<_}
 use native.Mathlib.Omega.{arith}
-use lib.Dec.{eqb, leb, ltb}
-use lib.ListN.{length, getD, set}
+use lib.Dec.{eqb, leb}
+use lib.ListN.{length}
 use Rattle.std.specs.declared.result.Result.{Result}
 use Rattle.std.specs.declared.result.Result.the-variants.{Ok, Err}
-use Rattle.std.proofs.shelf.Lists.{length-set, getD-set-same, getD-set-other}
 use Rattle.std.proofs.shelf.Tests.{cond-both, and-parts, ltb-true, leb-true, leb-false, eqb-true, eqb-false}
 use Rattle.refusals.specs.declared.Refusal.{Refusal}
 use Rattle.refusals.specs.declared.Refusal.the-variants.{UnknownParticipant, AmountLimits, MoneyShort}
 use Rattle.money.specs.declared.transfers.Payment.{Payment}
-use Rattle.money.specs.Funds.{Funds, Sound, payment, answered, left, known, account, balance, moved, shifted}
+use Rattle.money.specs.Funds.{Funds, Sound, payment, payable, answered, left, known, account, balance, moved}
 use Rattle.money.specs.Laws.{Lawful, Within, answer-to, funds-after}
-use Rattle.money.proofs.Ledgers.{sum-shifted}
-
--- an amount shifted between two places: both balances, and any other
-module _ (bs : List ℕ) (x y amount : ℕ) (hx : x < length bs) (hy : y < length bs) (ne : x ≡ y → ⊥) where
-  pub shifted-from : getD (shifted bs x y amount) x 0 ≡ getD bs x 0 - amount
-  shifted-from = getD-set-other (set bs x (getD bs x 0 - amount)) y x (getD bs y 0 + amount) 0 ne ∙ getD-set-same bs x (getD bs x 0 - amount) 0 hx
-
-  pub shifted-to : getD (shifted bs x y amount) y 0 ≡ getD bs y 0 + amount
-  shifted-to = let l = length-set bs x (getD bs x 0 - amount) in getD-set-same (set bs x (getD bs x 0 - amount)) y (getD bs y 0 + amount) 0 (omega arith)
-
-  pub shifted-third : (a : ℕ) → (a ≡ x → ⊥) → (a ≡ y → ⊥) → getD (shifted bs x y amount) a 0 ≡ getD bs a 0
-  shifted-third a nx ny = getD-set-other (set bs x (getD bs x 0 - amount)) y a (getD bs y 0 + amount) 0 ny ∙ getD-set-other bs x a (getD bs x 0 - amount) 0 nx
+use Rattle.money.proofs.Shifts.{sum-shifted, shifted-from, shifted-to, shifted-third}
 
 module _ (o : Payment) (f : Funds) where
   abbrev Law : Result Funds Refusal → Type 0
@@ -76,7 +63,7 @@ module _ (o : Payment) (f : Funds) where
   unfolding payment
   payment-lawful s =
     cond-both (known f (o .payer) && known f (o .payee)) _ _ Law
-      (λ k. cond-both (leb 1 (o .amount) && leb (o .amount) 100000000000000000) _ _ Law
+      (λ k. cond-both (payable (o .amount)) _ _ Law
         (λ _. cond-both (eqb (account f (o .payer)) (account f (o .payee))) _ _ Law
           (λ e. staying (eqb-true _ _ e))
           (λ e. cond-both (leb (o .amount) (balance f (o .payer))) _ _ Law

@@ -3,30 +3,16 @@ use mathlib.Core.Path.{_≡_, refl, sym, ap, _∙_}
 use mathlib.Core.Bool.{true, false}
 use mathlib.Core.Logic.{_⊎_, inl, inr, ⊎-elim}
 use mathlib.Core.List.{List}
-use Prim.Native.Nat.{ℕ, _+_, _-_, _≤_, _<_}
+use Prim.Native.Nat.{ℕ, _≤_, _<_}
 use native.Mathlib.Omega.{arith}
-use lib.ListN.{length, getD, set}
+use lib.ListN.{length, getD}
 use Rattle.std.specs.declared.result.Result.the-variants.{Ok, Err}
-use Rattle.std.specs.shelf.Lists.{sum}
-use Rattle.std.proofs.shelf.Lists.{length-set, getD-set-other}
-use Rattle.std.proofs.shelf.Sums.{sumBy-set}
 use Rattle.std.proofs.shelf.Counted.{length-counting, getD-counting}
 use Rattle.refusals.specs.declared.Refusal.the-variants.{UnknownParticipant, AmountLimits, MoneyShort}
 use Rattle.money.specs.Funds.{Funds, payment, payable, account, balance, asked, moved, shifted}
 use Rattle.money.specs.Ledger.{of-ledger}
 use Rattle.money.proofs.Payments.{asked-known, asked-unknown, payment-unknown, payment-amount, payment-same, payment-short, payment-moves}
-
--- moving an amount between two places keeps the sum
-pub sum-shifted : (bs : List ℕ) (x y amount : ℕ) → x < length bs → y < length bs → (x ≡ y → ⊥) → amount ≤ getD bs x 0 → sum (shifted bs x y amount) ≡ sum bs
-sum-shifted bs x y amount hx hy ne le =
-    let l = length-set bs x (getD bs x 0 - amount) in
-    let a = sumBy-set (λ k. k) bs x (getD bs x 0 - amount) 0 hx in
-    let b = sumBy-set (λ k. k) (set bs x (getD bs x 0 - amount)) y (getD bs y 0 + amount) 0 (omega arith) in
-    let c = getD-set-other bs x y (getD bs x 0 - amount) 0 (λ e. ne (sym e)) in
-    omega arith
-
-pub length-shifted : (bs : List ℕ) (x y amount : ℕ) → length (shifted bs x y amount) ≡ length bs
-length-shifted bs x y amount = simp length-set
+use Rattle.money.proofs.Shifts.{length-shifted}
 
 -- a ledger of n balances: what it answers, by the balances alone
 module _ (bs : List ℕ) (n : ℕ) (e : n ≡ length bs) where

@@ -1,14 +1,11 @@
 -- How a question and a payment end, one law for each way.
-use mathlib.Core.Path.{_≡_, subst, _∙_}
-use mathlib.Core.Bool.{Bool, true, false, cond, _&&_}
+use mathlib.Core.Path.{_≡_}
+use mathlib.Core.Bool.{true, false}
 use mathlib.Core.Logic.{_⊎_}
-use mathlib.Core.List.{List}
 use Prim.Native.Nat.{ℕ, _≤_, _<_}
-use lib.ListN.{length, take}
+use lib.ListN.{length}
 use native.Mathlib.Omega.{arith}
 use Rattle.std.specs.declared.result.Result.the-variants.{Ok, Err}
-use Rattle.std.specs.shelf.Lists.{All}
-use Rattle.std.proofs.shelf.Lists.{take-all}
 use Rattle.std.proofs.shelf.Ways.{tells}
 use Rattle.refusals.specs.declared.Refusal.{Refusal}
 use Rattle.refusals.specs.declared.Refusal.the-variants.{UnknownParticipant, AmountLimits, MoneyShort}
@@ -49,7 +46,3 @@ module _ (f : Funds) (payer payee amount : ℕ) where
       pub payment-moves : (account f payer ≡ account f payee → ⊥) → amount ≤ balance f payer → payment f payer payee amount ≡ Ok (moved f (account f payer) (account f payee) amount)
       unfolding payment
       payment-moves e h = grind (arith, tells)
-
--- a loop over a slice of these elements has seen them all
-pub seen-all : {X : Type 0} (P : X → Type 0) (xs ys : List X) (i : ℕ) → xs ≡ ys → length xs ≤ i → All P (take i xs) → All P ys
-seen-all P xs ys i e h a = subst (All P) (take-all i xs h ∙ e) a

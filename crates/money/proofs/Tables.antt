@@ -1,22 +1,21 @@
 -- Questions and payments at an agent table, beside those of the agents below.
 use mathlib.Core.Path.{_≡_, refl, sym, ap, _∙_}
-use mathlib.Core.Bool.{Bool, true, false, cond, _&&_}
-use mathlib.Core.Logic.{_⊎_, inl, inr}
+use mathlib.Core.Bool.{Bool, true, false, cond}
+use mathlib.Core.Logic.{inl, inr}
 use mathlib.Core.List.{List, [], _∷_, map}
-use Prim.Native.Nat.{ℕ, _≤_, _<_}
+use Prim.Native.Nat.{ℕ, _<_}
 use native.Mathlib.Omega.{arith}
-use lib.Dec.{eqb, leb, ltb}
 use lib.ListN.{length, getD}
 use Rattle.std.specs.shelf.Lists.{All}
 use Rattle.std.specs.declared.result.Result.{Result}
 use Rattle.std.specs.declared.result.Result.the-variants.{Ok, Err}
-use Rattle.std.proofs.shelf.Tests.{cond-both, lt-ltb}
+use Rattle.std.proofs.shelf.Tests.{lt-ltb}
 use Rattle.refusals.specs.declared.Refusal.{Refusal}
-use Rattle.refusals.specs.declared.Refusal.the-variants.{UnknownParticipant, AmountLimits, MoneyShort}
-use Rattle.money.specs.Funds.{Funds, Sound, payment, covered, asked, answered, left, known, account, balance, moved}
+use Rattle.money.specs.Funds.{Funds, Sound, payment, asked, answered, left, known, account, balance}
 use Rattle.money.specs.Agents.{agent, of-agents}
 use Rattle.money.specs.Soundness.{agent-known, agents-length, agents-account}
 use Rattle.money.proofs.Payments.{asked-known, asked-ok, asked-err, payment-unknown}
+use Rattle.money.proofs.Lawful.{payment-lawful}
 
 -- a table's funds by its rows
 abbrev pub of-rows : Funds → List ℕ → Funds
@@ -48,16 +47,6 @@ module _ (f : Funds) (rows : List ℕ) (p a : ℕ) (s : Sound f) (e : Ok a ≡ a
   pub agent-balance : asked f a (balance f a) ≡ asked (of-rows f rows) p (balance (of-rows f rows) p)
   agent-balance = known-both (balance f a) (balance (of-rows f rows) p) (ap (λ k. getD (f .balances) k 0) same-account)
 
--- a payment changes no account
-abbrev pub Keeps : Funds → Result Funds Refusal → Type 0
-Keeps f (Ok g) = g .accounts ≡ f .accounts
-Keeps f (Err e) = Unit {0}
-
-pub payment-keeps : (f : Funds) (p q amount : ℕ) → Keeps f (payment f p q amount)
-unfolding payment
-payment-keeps f p q amount =
-    cond-both (known f p && known f q) _ _ (Keeps f) (λ _. cond-both (leb 1 amount && leb amount 100000000000000000) _ _ (Keeps f) (λ _. cond-both (eqb (account f p) (account f q)) _ _ (Keeps f) (λ _. refl) (λ _. cond-both (leb amount (balance f p)) _ _ (Keeps f) (λ _. refl) (λ _. tt))) (λ _. tt)) (λ _. tt)
-
 -- the same outcome, with other accounts over the balances
 abbrev over : List ℕ → Result Funds Refusal → Result Funds Refusal
 over accounts (Ok g) = Ok (record { accounts = accounts; balances = g .balances })
@@ -67,7 +56,7 @@ answered-over : (accounts : List ℕ) (z : Result Funds Refusal) → answered z 
 answered-over accounts (Ok g) = refl
 answered-over accounts (Err e) = refl
 
-left-over : (f : Funds) (rows : List ℕ) (z : Result Funds Refusal) → Keeps f z → of-rows (left f z) rows ≡ left (of-rows f rows) (over (of-rows f rows .accounts) z)
+left-over : (f : Funds) (rows : List ℕ) (z : Result Funds Refusal) → left f z .accounts ≡ f .accounts → of-rows (left f z) rows ≡ left (of-rows f rows) (over (of-rows f rows .accounts) z)
 left-over f rows (Ok g) k = rw k refl
 left-over f rows (Err e) k = refl
 
@@ -90,7 +79,7 @@ module _ (f : Funds) (rows : List ℕ) (p q a b amount : ℕ) (s : Sound f) (ep 
   table-answer = answered-over (of-rows f rows .accounts) (payment f a b amount) ∙ ap answered (sym table-payment)
 
   pub table-after : of-rows (left f (payment f a b amount)) rows ≡ left (of-rows f rows) (payment (of-rows f rows) p q amount)
-  table-after = left-over f rows (payment f a b amount) (payment-keeps f a b amount) ∙ ap (left (of-rows f rows)) (sym table-payment)
+  table-after = left-over f rows (payment f a b amount) (payment-lawful (record { payer = a; payee = b; amount = amount }) f s .fixed) ∙ ap (left (of-rows f rows)) (sym table-payment)
 
 -- a payment of or to nobody
 pub nobody-pays : (f : Funds) (p q amount x : ℕ) (e : Refusal) → Err e ≡ asked f p x → Err e ≡ answered (payment f p q amount)

@@ -6,7 +6,7 @@ use Rattle.std.specs.Of.Vec.{vec-items}
 use Rattle.std.specs.shelf.Lists.{All}
 use Rattle.std.proofs.shelf.Elements.{all-getD, all-more}
 use Rattle.money.specs.Agents.{of-agents}
-use Rattle.money.proofs.Payments.{seen-all}
+use Rattle.money.proofs.Loops.{seen-all}
 use Rattle.money.proofs.Tables.{agents-named}
 use Rattle.money.proofs.agents.AgentTable.new.Needs as need
 

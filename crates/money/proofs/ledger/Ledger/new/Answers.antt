@@ -5,7 +5,7 @@ use Rattle.std.specs.Of.Vec.{vec-items}
 use Rattle.std.specs.shelf.Lists.{All}
 use Rattle.std.proofs.shelf.Elements.{all-getD, all-more}
 use Rattle.std.proofs.shelf.Sums.{sumBy-le}
-use Rattle.money.proofs.Payments.{seen-all}
+use Rattle.money.proofs.Loops.{seen-all}
 use Rattle.money.proofs.ledger.Ledger.new.Needs as need
 
 abbrev Low : ℕ → Type 0

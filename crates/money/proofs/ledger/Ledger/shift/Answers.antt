@@ -8,7 +8,7 @@ use Rattle.std.specs.shelf.Lists.{sum}
 use Rattle.std.proofs.shelf.Lists.{getD-read}
 use Rattle.std.proofs.shelf.Sums.{getD-le-sumBy}
 use Rattle.money.specs.Funds.{shifted}
-use Rattle.money.proofs.Ledgers.{sum-shifted}
+use Rattle.money.proofs.Shifts.{sum-shifted}
 use Rattle.money.proofs.ledger.Ledger.shift.Needs as need
 
 -- the balances written are those shifted
