@@ -1,6 +1,6 @@
 ghost use mathlib.Core.Path.{_≡_};
 ghost use Prim.Native.Nat.{ℕ, _≤_, _<_};
-ghost use lib.Dec.{leb};
+ghost use lib.Dec.{eqb, leb};
 ghost use lib.ListN.{getD};
 ghost use Rattle.std.specs.Of.Vec.{vec-len, vec-items};
 ghost use Rattle.money.specs.Funds.{payable, shifted};
@@ -53,6 +53,13 @@ fn payable(amount: u64) -> bool
     1 <= amount && amount <= MOST_AMOUNT
 }
 
+// Whether two participants have one account: only if they are one.
+fn same_account(payer: usize, payee: usize) -> bool
+    ensures { λ r. ⌜ r ≡ eqb payer payee ⌝ }
+{
+    payer == payee
+}
+
 // Whether a balance covers an amount.
 fn covers(balance: u64, amount: u64) -> bool
     ensures { λ r. ⌜ r ≡ leb amount balance ⌝ }
@@ -93,7 +100,7 @@ pub impl Money for Ledger as LedgerMoney {
         if !payable(amount) {
             return Err(Refusal::AmountLimits);
         }
-        if payer == payee {
+        if same_account(payer, payee) {
             return Ok(());
         }
         if !covers(self.balances[payer], amount) {
