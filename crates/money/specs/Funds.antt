@@ -48,7 +48,7 @@ moved f x y amount = record { accounts = f .accounts; balances = shifted (f .bal
 -- how a payment between two known participants, of an amount within the limits, ends
 abbrev pub covered : Funds → ℕ → ℕ → ℕ → Result Funds Refusal
 covered f payer payee amount =
-  cond (eqb (account f payer) (account f payee)) (Ok f)
+    cond (eqb (account f payer) (account f payee)) (Ok f)
     (cond (leb amount (balance f payer)) (Ok (moved f (account f payer) (account f payee) amount)) (Err MoneyShort))
 
 -- an amount that may be paid: 1 to 10^17
@@ -58,7 +58,7 @@ payable amount = leb 1 amount && leb amount 100000000000000000
 -- how a payment ends: a refusal, or the funds after it
 unfoldable pub payment : Funds → ℕ → ℕ → ℕ → Result Funds Refusal
 payment f payer payee amount =
-  cond (known f payer && known f payee)
+    cond (known f payer && known f payee)
     (cond (payable amount) (covered f payer payee amount) (Err AmountLimits))
     (Err UnknownParticipant)
 

@@ -2,6 +2,7 @@
 mod agents;
 mod ledger;
 mod transfers;
+
 ghost use mathlib.Core.Path.{_≡_};
 ghost use lib.ListN.{length};
 ghost use Rattle.money.specs.Funds.{Funds, Sound, payment, answered, left, asked, account, balance};

@@ -1,6 +1,6 @@
 // Payments over any money side, by its meaning alone.
 ghost use mathlib.Core.Path.{_≡_};
-ghost use Rattle.money.specs.Laws.{answer-to, funds-after, Lawful};
+ghost use Rattle.money.specs.Laws.{answer-to, funds-after, Lawful, Conserves};
 use crate::Money;
 use refusals::Refusal;
 
@@ -22,9 +22,14 @@ pub fn pay_once<M: Money>(money: &mut M, order: Payment) -> Result<(), Refusal>
 }
 
 // Makes two payments, the second whatever became of the first.
-pub fn pay_both<M: Money>(money: &mut M, first: Payment, second: Payment) -> (Result<(), Refusal>, Result<(), Refusal>)
+pub fn pay_both<M: Money>(
+    money: &mut M,
+    first: Payment,
+    second: Payment,
+) -> (Result<(), Refusal>, Result<(), Refusal>)
     ensures answer { λ r. ⌜ r ≡ (answer-to (M·Money .meaning (now (money .entry))) first, answer-to (funds-after (M·Money .meaning (now (money .entry))) first) second) ⌝ }
     ensures after { λ _. ⌜ M·Money .meaning (now (money .exit)) ≡ funds-after (funds-after (M·Money .meaning (now (money .entry))) first) second ⌝ }
+    ensures lawful { λ _. ⌜ Conserves (M·Money .meaning (now (money .entry))) (M·Money .meaning (now (money .exit))) ⌝ }
 {
     let one = pay_once(money, first);
     let two = pay_once(money, second);

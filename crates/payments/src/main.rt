@@ -39,7 +39,10 @@ fn show_answer(rt: &LibcRuntime, order: Payment, answer: Result<(), Refusal>) ->
 // A participant's account and balance, or why there are none.
 fn show_participant<M: Money>(rt: &LibcRuntime, money: &M, participant: usize) -> io::Result<()> {
     match (money.account(participant), money.balance(participant)) {
-        (Ok(account), Ok(balance)) => println!(rt, "{participant} has {balance} on account {account}"),
+        (Ok(account), Ok(balance)) => println!(
+            rt,
+            "{participant} has {balance} on account {account}"
+        ),
         (Err(refusal), _) | (_, Err(refusal)) => {
             let number = refusal.number();
             println!(rt, "{participant} has no account: refused {number}")
@@ -68,7 +71,12 @@ fn make_all<M: Money>(rt: &LibcRuntime, money: &mut M, orders: &[Payment]) -> io
 }
 
 // Makes payments through a table on a money side, and takes the table off again.
-fn through_agents<M: Money>(rt: &LibcRuntime, below: M, rows: Vec<usize>, orders: &[Payment]) -> (M, io::Result<()>)
+fn through_agents<M: Money>(
+    rt: &LibcRuntime,
+    below: M,
+    rows: Vec<usize>,
+    orders: &[Payment],
+) -> (M, io::Result<()>)
     ensures { λ r. ⌜ whole (M·Money .meaning (r .0)) ≡ whole (M·Money .meaning below) ⌝ }
 {
     match AgentTable::new(below, rows) {
@@ -85,7 +93,13 @@ fn through_agents<M: Money>(rt: &LibcRuntime, below: M, rows: Vec<usize>, orders
 }
 
 // The same through a table on a table.
-fn through_both<M: Money>(rt: &LibcRuntime, below: M, lower: Vec<usize>, upper: Vec<usize>, orders: &[Payment]) -> (M, io::Result<()>)
+fn through_both<M: Money>(
+    rt: &LibcRuntime,
+    below: M,
+    lower: Vec<usize>,
+    upper: Vec<usize>,
+    orders: &[Payment],
+) -> (M, io::Result<()>)
     ensures { λ r. ⌜ whole (M·Money .meaning (r .0)) ≡ whole (M·Money .meaning below) ⌝ }
 {
     match AgentTable::new(below, lower) {
@@ -149,9 +163,20 @@ fn main(rt: LibcRuntime) -> io::Result<()> {
         return println!(rt, "no ledger");
     };
     make_all(&rt, &mut ledger, &on_ledger())?;
-    let (ledger, shown) = through_agents(&rt, ledger, vec![in rt.alloc(); 1, 2, 1, 3, 0]?, &on_table());
+    let (ledger, shown) = through_agents(
+        &rt,
+        ledger,
+        vec![in rt.alloc(); 1, 2, 1, 3, 0]?,
+        &on_table(),
+    );
     shown?;
-    let (mut ledger, shown) = through_both(&rt, ledger, vec![in rt.alloc(); 1, 2, 1, 3, 0]?, vec![in rt.alloc(); 4, 3, 0, 2]?, &on_both());
+    let (mut ledger, shown) = through_both(
+        &rt,
+        ledger,
+        vec![in rt.alloc(); 1, 2, 1, 3, 0]?,
+        vec![in rt.alloc(); 4, 3, 0, 2]?,
+        &on_both(),
+    );
     shown?;
     show_pair(&rt, &mut ledger)
 }
