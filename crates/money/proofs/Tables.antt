@@ -41,11 +41,12 @@ module _ (f : Funds) (rows : List ℕ) (p a : ℕ) (s : Sound f) (e : Ok a ≡ a
   known-both : (x y : ℕ) → x ≡ y → asked f a x ≡ asked (of-rows f rows) p y
   known-both x y h = asked-known f a x (rw agent-is (agent-known f (getD rows p 0) s)) ∙ ap Ok h ∙ sym (asked-known (of-rows f rows) p y (asked-ok (of-rows f rows) p (agent f (getD rows p 0)) a e .0))
 
-  pub agent-account : asked f a (account f a) ≡ asked (of-rows f rows) p (account (of-rows f rows) p)
-  agent-account = known-both (account f a) (account (of-rows f rows) p) same-account
+  module _ (r : Result ℕ Refusal) where
+    pub agent-account : r ≡ asked f a (account f a) → r ≡ asked (of-rows f rows) p (account (of-rows f rows) p)
+    agent-account h = h ∙ known-both (account f a) (account (of-rows f rows) p) same-account
 
-  pub agent-balance : asked f a (balance f a) ≡ asked (of-rows f rows) p (balance (of-rows f rows) p)
-  agent-balance = known-both (balance f a) (balance (of-rows f rows) p) (ap (λ k. getD (f .balances) k 0) same-account)
+    pub agent-balance : r ≡ asked f a (balance f a) → r ≡ asked (of-rows f rows) p (balance (of-rows f rows) p)
+    agent-balance h = h ∙ known-both (balance f a) (balance (of-rows f rows) p) (ap (λ k. getD (f .balances) k 0) same-account)
 
 -- the same outcome, with other accounts over the balances
 abbrev over : List ℕ → Result Funds Refusal → Result Funds Refusal
@@ -75,19 +76,23 @@ module _ (f : Funds) (rows : List ℕ) (p q a b amount : ℕ) (s : Sound f) (ep 
       let kb : known f b ≡ true = rw (agent-is f rows q b s eq) (lt-ltb _ _ (agent-known f (getD rows q 0) s)) in
       rw (kp, kq, ka, kb, ← same-account f rows p a s ep, ← same-account f rows q b s eq) (simp over-cond)
 
-  pub table-answer : answered (payment f a b amount) ≡ answered (payment (of-rows f rows) p q amount)
-  table-answer = answered-over (of-rows f rows .accounts) (payment f a b amount) ∙ ap answered (sym table-payment)
+  pub table-answer : (r : Result Unit Refusal) → r ≡ answered (payment f a b amount) → r ≡ answered (payment (of-rows f rows) p q amount)
+  table-answer r h = h ∙ answered-over (of-rows f rows .accounts) (payment f a b amount) ∙ ap answered (sym table-payment)
 
-  pub table-after : of-rows (left f (payment f a b amount)) rows ≡ left (of-rows f rows) (payment (of-rows f rows) p q amount)
-  table-after = left-over f rows (payment f a b amount) (payment-lawful (record { payer = a; payee = b; amount = amount }) f s .fixed) ∙ ap (left (of-rows f rows)) (sym table-payment)
+  pub table-after : (g : Funds) → g ≡ left f (payment f a b amount) → of-rows g rows ≡ left (of-rows f rows) (payment (of-rows f rows) p q amount)
+  table-after g h = ap (λ k. of-rows k rows) h ∙ left-over f rows (payment f a b amount) (payment-lawful (record { payer = a; payee = b; amount = amount }) f s .fixed) ∙ ap (left (of-rows f rows)) (sym table-payment)
 
--- a payment of or to nobody
-pub nobody-pays : (f : Funds) (p q amount x : ℕ) (e : Refusal) → Err e ≡ asked f p x → Err e ≡ answered (payment f p q amount)
-nobody-pays f p q amount x e h = ap Err (asked-err f p x e h .1) ∙ ap answered (sym (payment-unknown f p q amount (inl (asked-err f p x e h .0))))
+-- a payment of or to nobody is refused, and leaves everything
+module _ (f : Funds) (p q amount x : ℕ) (r : Result Unit Refusal) (d e : Refusal) (rd : r ≡ Err d) (de : d ≡ e) where
+  refused-as : r ≡ Err e
+  refused-as = rd ∙ ap Err de
 
-pub nobody-paid : (f : Funds) (p q amount x : ℕ) (e : Refusal) → Err e ≡ asked f q x → Err e ≡ answered (payment f p q amount)
-nobody-paid f p q amount x e h = ap Err (asked-err f q x e h .1) ∙ ap answered (sym (payment-unknown f p q amount (inr (asked-err f q x e h .0))))
+  pub nobody-pays : Err e ≡ asked f p x → r ≡ answered (payment f p q amount)
+  nobody-pays h = refused-as ∙ ap Err (asked-err f p x e h .1) ∙ ap answered (sym (payment-unknown f p q amount (inl (asked-err f p x e h .0))))
 
-pub refused-stays : (f : Funds) (z : Result Funds Refusal) (e : Refusal) → Err e ≡ answered z → f ≡ left f z
-refused-stays f (Ok g) e h = cc
-refused-stays f (Err d) e h = refl
+  pub nobody-paid : Err e ≡ asked f q x → r ≡ answered (payment f p q amount)
+  nobody-paid h = refused-as ∙ ap Err (asked-err f q x e h .1) ∙ ap answered (sym (payment-unknown f p q amount (inr (asked-err f q x e h .0))))
+
+pub refused-stays : (f : Funds) (z : Result Funds Refusal) (r : Result Unit Refusal) (e : Refusal) → r ≡ Err e → r ≡ answered z → f ≡ left f z
+refused-stays f (Ok g) r e d h = cc
+refused-stays f (Err b) r e d h = refl

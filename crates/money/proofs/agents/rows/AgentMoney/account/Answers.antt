@@ -1,4 +1,3 @@
-use mathlib.Core.Path.{_∙_}
 use Rattle.std.specs.Of.Vec.{vec-items}
 use Rattle.money.proofs.Tables.{agent-account}
 use Rattle.money.proofs.agents.rows.AgentMoney.account.Needs as need
@@ -6,4 +5,4 @@ use Rattle.money.proofs.agents.rows.AgentMoney.account.Needs as need
 pub returns : need.returns
 returns g c =
     let t = c .args .self .now in
-    c .account .ensures ∙ agent-account (g .M·Money .meaning (t .below)) (vec-items (t .agents .rows)) (c .args .participant) (c .in-Continue-agent .field-0) (g .M·Money .sound (t .below)) (c .in-Continue-agent .ensures tt)
+    agent-account (g .M·Money .meaning (t .below)) (vec-items (t .agents .rows)) (c .args .participant) (c .in-Continue-agent .field-0) (g .M·Money .sound (t .below)) (c .in-Continue-agent .ensures tt) (c .account .result) (c .account .ensures)
