@@ -18,6 +18,9 @@ pub use transfers::pay_once;
 // The most that a payment may move.
 pub const MOST_AMOUNT: u64 = 100_000_000_000_000_000;
 
+// The most that an account of a ledger may hold at first.
+pub const MOST_AT_FIRST: u64 = 1_000_000_000_000_000;
+
 pub trait Money {
     ghost meaning: { Self → Funds };
 

@@ -5,6 +5,8 @@ use money::AgentMoney as _;
 use money::AgentTable;
 use money::Ledger;
 use money::LedgerMoney as _;
+use money::MOST_AMOUNT;
+use money::MOST_AT_FIRST;
 use money::Money;
 use money::Payment;
 use money::pay_both;
@@ -144,17 +146,21 @@ fn show_table(rt: &LibcRuntime, rows: usize, agent: usize) -> io::Result<()> {
     }
 }
 
+// On both sides of each limit.
 fn show_limits(rt: &LibcRuntime) -> io::Result<()> {
-    show_ledger(rt, 1, 0)?;
-    show_ledger(rt, 2, 1_000_000_000_000_000)?;
-    show_ledger(rt, 2, 1_000_000_000_000_001)?;
-    show_ledger(rt, 32, 0)?;
-    show_ledger(rt, 33, 0)?;
-    show_table(rt, 1, 0)?;
-    show_table(rt, 2, 1)?;
-    show_table(rt, 2, 2)?;
-    show_table(rt, 32, 0)?;
-    show_table(rt, 33, 0)
+    for (accounts, each) in [
+        (1, 0),
+        (2, MOST_AT_FIRST),
+        (2, MOST_AT_FIRST + 1),
+        (32, 0),
+        (33, 0),
+    ] {
+        show_ledger(rt, accounts, each)?;
+    }
+    for (rows, agent) in [(1, 0), (2, 1), (2, 2), (32, 0), (33, 0)] {
+        show_table(rt, rows, agent)?;
+    }
+    Ok(())
 }
 
 fn main(rt: LibcRuntime) -> io::Result<()> {
@@ -191,16 +197,14 @@ fn show_pair<M: Money>(rt: &LibcRuntime, money: &mut M) -> io::Result<()> {
     show_funds(rt, money)
 }
 
-const MOST: u64 = 100_000_000_000_000_000;
-
 fn on_ledger() -> [Payment; 11] {
     [
         order(4, 0, 1),
         order(0, 4, 1),
         order(4, 4, 0),
         order(0, 1, 0),
-        order(0, 1, MOST + 1),
-        order(0, 1, MOST),
+        order(0, 1, MOST_AMOUNT + 1),
+        order(0, 1, MOST_AMOUNT),
         order(2, 2, 77),
         order(3, 3, 0),
         order(0, 1, 1001),
@@ -214,7 +218,7 @@ fn on_table() -> [Payment; 9] {
         order(5, 0, 1),
         order(0, 5, 1),
         order(0, 1, 0),
-        order(0, 1, MOST + 1),
+        order(0, 1, MOST_AMOUNT + 1),
         order(0, 2, 5000),
         order(4, 0, 1),
         order(3, 4, 250),
@@ -228,8 +232,8 @@ fn on_both() -> [Payment; 9] {
         order(4, 0, 1),
         order(0, 4, 1),
         order(0, 1, 0),
-        order(0, 1, MOST + 1),
-        order(2, 3, MOST),
+        order(0, 1, MOST_AMOUNT + 1),
+        order(2, 3, MOST_AMOUNT),
         order(1, 0, 1),
         order(0, 1, 251),
         order(0, 1, 250),

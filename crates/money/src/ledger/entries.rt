@@ -8,11 +8,9 @@ ghost use Rattle.money.specs.Ledger.{ledger-funds, Opened};
 ghost use Rattle.money.specs.Soundness.{ledger-sound};
 use super::Ledger;
 use crate::MOST_AMOUNT;
+use crate::MOST_AT_FIRST;
 use crate::Money;
 use refusals::Refusal;
-
-// The most that an account may hold at first.
-const MOST_AT_FIRST: u64 = 1_000_000_000_000_000;
 
 impl Ledger {
     // A ledger of 2 to 32 accounts that hold these balances, none above 10^15.
