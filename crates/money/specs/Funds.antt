@@ -48,14 +48,18 @@ moved f x y amount = record { accounts = f .accounts; balances = shifted (f .bal
 -- how a payment between two known participants, of an amount within the limits, ends
 abbrev pub covered : Funds → ℕ → ℕ → ℕ → Result Funds Refusal
 covered f payer payee amount =
-  cond (eqb (account f payer) (account f payee)) (Ok f)
+    cond (eqb (account f payer) (account f payee)) (Ok f)
     (cond (leb amount (balance f payer)) (Ok (moved f (account f payer) (account f payee) amount)) (Err MoneyShort))
+
+-- an amount that may be paid: 1 to 10^17
+abbrev pub payable : ℕ → Bool
+payable amount = leb 1 amount && leb amount 100000000000000000
 
 -- how a payment ends: a refusal, or the funds after it
 unfoldable pub payment : Funds → ℕ → ℕ → ℕ → Result Funds Refusal
 payment f payer payee amount =
-  cond (known f payer && known f payee)
-    (cond (leb 1 amount && leb amount 100000000000000000) (covered f payer payee amount) (Err AmountLimits))
+    cond (known f payer && known f payee)
+    (cond (payable amount) (covered f payer payee amount) (Err AmountLimits))
     (Err UnknownParticipant)
 
 -- the answer by an outcome, and what it leaves: a refusal leaves everything as it was

@@ -1,1 +1,5 @@
 pub mod Funds
+pub mod Ledger
+pub mod Agents
+pub mod Soundness
+pub mod Laws

@@ -1,8 +1,25 @@
-// The money side: one interface by its meaning.
+// The money side: one interface by its meaning, a ledger, and agent tables on any money side.
+mod agents;
+mod ledger;
+mod transfers;
+
 ghost use mathlib.Core.Path.{_≡_};
 ghost use lib.ListN.{length};
 ghost use Rattle.money.specs.Funds.{Funds, Sound, payment, answered, left, asked, account, balance};
+pub use agents::AgentTable;
+pub use agents::rows::AgentMoney;
+pub use ledger::Ledger;
+pub use ledger::entries::LedgerMoney;
 use refusals::Refusal;
+pub use transfers::Payment;
+pub use transfers::pay_both;
+pub use transfers::pay_once;
+
+// The most that a payment may move.
+pub const MOST_AMOUNT: u64 = 100_000_000_000_000_000;
+
+// The most that an account of a ledger may hold at first.
+pub const MOST_AT_FIRST: u64 = 1_000_000_000_000_000;
 
 pub trait Money {
     ghost meaning: { Self → Funds };
