@@ -8,7 +8,7 @@ use lib.Dec.{eqb}
 use lib.ListN.{length, getD, take, drop}
 use Rattle.std.proofs.shelf.Lists.{drop-drop, drop-more, drop-all, length-drop, take-all}
 use Rattle.std.proofs.shelf.Tests.{ne-eqb, eq-eqb}
-use Rattle.dayfile.specs.Text.{prepend, parts, lines, before, Same-lines}
+use Rattle.dayfile.specs.Text.{prepend, parts, lines, fields, before, Same-lines}
 
 -- the bytes before the first mark, from a place on
 abbrev pub upto : ℕ → ℕ → List ℕ → ℕ
@@ -88,3 +88,11 @@ module _ (mark : ℕ) where
 pub same-lines : Same-lines
 same-lines [] b ne = ap (λ t. cond t ([] ∷ lines (10 ∷ [])) (prepend b (lines (10 ∷ [])))) (ne-eqb b 10 ne) ∙ sym (ap (λ t. cond t ([] ∷ []) (prepend b [])) (ne-eqb b 10 ne))
 same-lines (x ∷ xs) b ne = ap (λ ls. cond (eqb x 10) ([] ∷ ls) (prepend x ls)) (same-lines xs b ne)
+
+-- the first field of what is left of a line
+pub field-mark : (bs : List ℕ) (end : ℕ) → end ≡ upto 44 0 bs → end < length bs → fields bs ≡ take (end - 0) bs ∷ fields (drop (end + 1) bs)
+field-mark bs end at h = cut-mark 44 ([] ∷ []) bs 0 end at h
+
+pub field-last : (bs : List ℕ) (end : ℕ) → end ≡ upto 44 0 bs → length bs ≤ end → fields bs ≡ take (end - 0) bs ∷ []
+field-last [] end at h = ap (λ p. p ∷ []) (sym (take-all (end - 0) [] (omega arith)))
+field-last (b ∷ bs) end at h = cut-last 44 ([] ∷ []) (b ∷ bs) 0 end at (λ b. refl) (omega arith) h

@@ -1,2 +1,4 @@
 pub mod Text
+pub mod Looks
 pub mod Readers
+pub mod Kinds

@@ -6,6 +6,8 @@ use Prim.Native.Nat.{ℕ}
 use lib.Dec.{eqb}
 use Rattle.std.specs.declared.option.Option.{Option}
 use Rattle.std.specs.declared.option.Option.the-variants.{Some, None}
+use Rattle.std.specs.declared.result.Result.{Result}
+use Rattle.std.specs.declared.result.Result.the-variants.{Ok, Err}
 
 -- one byte more in front of the first part
 abbrev pub prepend : ℕ → List (List ℕ) → List (List ℕ)
@@ -21,6 +23,10 @@ parts mark none (b ∷ bs) = cond (eqb b mark) ([] ∷ parts mark none bs) (prep
 abbrev pub lines : List ℕ → List (List ℕ)
 lines file = parts 10 [] file
 
+-- fields are parted by commas, and any of them may be blank
+abbrev pub fields : List ℕ → List (List ℕ)
+fields line = parts 44 ([] ∷ []) line
+
 -- the bytes before the first mark
 abbrev pub before : ℕ → List ℕ → List ℕ
 before mark [] = []
@@ -34,6 +40,15 @@ first-of (x ∷ xs) = Some x
 abbrev pub rest-of : {X : Type 0} → List X → List X
 rest-of [] = []
 rest-of (x ∷ xs) = xs
+
+-- what comes of a value, if there is one
+abbrev pub if-some : {X Y : Type 0} → Option X → (X → Option Y) → Option Y
+if-some None f = None
+if-some (Some x) f = f x
+
+abbrev pub if-ok : {X Y E : Type 0} → Result X E → (X → Result Y E) → Result Y E
+if-ok (Ok x) f = f x
+if-ok (Err e) f = Err e
 
 -- a file whose last byte b is not 10 has the same lines with byte 10 behind it
 abbrev pub Same-lines : Type 0

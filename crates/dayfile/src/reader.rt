@@ -1,6 +1,6 @@
 // Readers that hand out the lines of a file.
 ghost use mathlib.Core.Path.{_≡_};
-ghost use Prim.Native.Nat.{_+_, _≤_};
+ghost use Prim.Native.Nat.{_+_, _^_, _≤_, _<_};
 ghost use lib.ListN.{length, drop};
 ghost use Rattle.std.specs.Options.{mapped};
 ghost use Rattle.dayfile.specs.Text.{before, first-of, rest-of, Same-lines};
@@ -43,10 +43,11 @@ impl<'a> Lines<'a> {
 }
 
 // Where the part that begins at `from` ends: before the first mark, or with the bytes.
-fn end_of(bytes: &[u8], from: usize, mark: u8) -> usize
+pub(crate) fn end_of(bytes: &[u8], from: usize, mark: u8) -> usize
     requires { ⌜ from ≤ length (now bytes) ⌝ }
     ensures value { λ r. ⌜ r ≡ from + length (before mark (drop from (now (bytes .entry)))) ⌝ }
     ensures bound { λ r. ⌜ r ≤ length (now (bytes .entry)) ⌝ }
+    ensures size { λ _. ⌜ length (now (bytes .entry)) < 2 ^ 64 ⌝ }
 {
     let mut end = from;
     while end < bytes.len() && bytes[end] != mark {
