@@ -2,3 +2,4 @@ pub mod Text
 pub mod Looks
 pub mod Readers
 pub mod Kinds
+pub mod Replies

@@ -1,8 +1,11 @@
 // The day file: its lines and their fields, calls out of lines, answers into lines.
+mod answers;
 mod fields;
 mod kinds;
 mod reader;
+mod slip;
 
+pub use answers::write_answer;
 pub use fields::Field;
 pub use fields::Fields;
 pub use kinds::Form;
