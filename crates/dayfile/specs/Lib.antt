@@ -3,3 +3,5 @@ pub mod Looks
 pub mod Readers
 pub mod Kinds
 pub mod Replies
+pub mod Values
+pub mod Calls

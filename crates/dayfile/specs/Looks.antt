@@ -38,3 +38,8 @@ numbered n (f ∷ fs) = (n, look-of f) ∷ numbered (next-number n) fs
 -- the fields of a line: the kind is field 1
 abbrev pub line-looks : List ℕ → List (ℕ × Look)
 line-looks line = numbered 1 (fields line)
+
+-- the field with a number, blank where there is none
+abbrev pub field-at : ℕ → List (ℕ × Look) → Look
+field-at n [] = blank
+field-at n (f ∷ fs) = cond (eqb (f .0) n) (f .1) (field-at n fs)

@@ -19,7 +19,7 @@ pub enum Field<'a> {
 
 impl<'a> Field<'a> {
     // What bytes look like.
-    pub fn of(bytes: &'a [u8]) -> Field<'a>
+    pub(crate) fn of(bytes: &'a [u8]) -> Field<'a>
         ensures { λ r. ⌜ look r ≡ look-of (now (bytes .entry)) ⌝ }
     {
         if bytes.is_empty() {
@@ -35,7 +35,7 @@ impl<'a> Field<'a> {
     }
 
     // The one byte of a letter.
-    pub fn letter(self) -> Option<char>
+    pub(crate) fn letter(self) -> Option<char>
         ensures { λ r. ⌜ r ≡ letter-of (look (self .entry)) ⌝ }
     {
         match self {

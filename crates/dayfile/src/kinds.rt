@@ -26,7 +26,7 @@ pub enum Kind {
 
 // The form that a field has to have.
 #[derive(Clone, Copy)]
-pub enum Form {
+pub(crate) enum Form {
     Number,
     Date,
     Side,
@@ -58,7 +58,7 @@ impl Kind {
     }
 
     // The forms of the fields behind the kind.
-    pub fn forms(self) -> &'static [Form]
+    pub(crate) fn forms(self) -> &'static [Form]
         ensures { λ r. ⌜ now r ≡ forms self ⌝ }
     {
         match self {
