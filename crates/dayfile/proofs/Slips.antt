@@ -21,8 +21,10 @@ slip-bytes s h =
     ∙ ap (λ u. written s ++ u) (s .zeros)
     ∙ ap (λ n. written s ++ replicate (120 - n) 0) (slip-size s h)
 
+one-less : (room size : ℕ) → room - size - 1 ≡ room - (size + 1)
+one-less room size = omega arith
+
 -- one byte more is written
-pub zeros-more : (bytes : List ℕ) (size b : ℕ) → size < 120 → drop size bytes ≡ replicate (120 - size) 0 → drop (size + 1) (set bytes size b) ≡ replicate (120 - (size + 1)) 0
-zeros-more bytes size b h zeros =
-    let n : 120 - size - 1 ≡ 120 - (size + 1) = omega arith in
-    drop-set-lt (size + 1) bytes size b (omega arith) ∙ sym (drop-drop 1 size bytes) ∙ ap (drop 1) zeros ∙ drop-replicate 1 (120 - size) 0 ∙ ap (λ k. replicate k 0) n
+pub zeros-more : (room : ℕ) (bytes : List ℕ) (size b : ℕ) → drop size bytes ≡ replicate (room - size) 0 → drop (size + 1) (set bytes size b) ≡ replicate (room - (size + 1)) 0
+zeros-more room bytes size b zeros =
+    drop-set-lt (size + 1) bytes size b (omega arith) ∙ sym (drop-drop 1 size bytes) ∙ ap (drop 1) zeros ∙ drop-replicate 1 (room - size) 0 ∙ ap (λ k. replicate k 0) (one-less room size)

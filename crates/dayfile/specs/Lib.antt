@@ -5,3 +5,4 @@ pub mod Kinds
 pub mod Replies
 pub mod Values
 pub mod Calls
+pub mod Spelling

@@ -4,6 +4,7 @@ ghost use Rattle.dayfile.specs.Text.{rest-of};
 ghost use Rattle.dayfile.specs.Looks.{field-at};
 ghost use Rattle.dayfile.specs.Readers.{look, fields-left};
 ghost use Rattle.dayfile.specs.Calls.{number-at, date-at, side-at, sender-at, first-fault, placement-of, order-of, pledge-of, call-of, read-call};
+ghost use Rattle.dayfile.specs.Spelling.{Read-spelled};
 use crate::fields::Field;
 use crate::fields::Fields;
 use crate::kinds::Form;
@@ -25,9 +26,10 @@ pub struct Fault {
     pub field: u64,
 }
 
-// The call that a line makes.
+// The call that a line makes. Every call that fits a line is read back from its spelling.
 pub fn read_call(line: &[u8]) -> Result<Call, Fault>
-    ensures { λ r. ⌜ r ≡ read-call (now (line .entry)) ⌝ }
+    ensures call { λ r. ⌜ r ≡ read-call (now (line .entry)) ⌝ }
+    ensures back { λ _. ⌜ Read-spelled ⌝ }
 {
     let fields = match Fields::new(line) {
         Ok(fields) => fields,

@@ -1,13 +1,10 @@
 use mathlib.Core.Path.{_≡_, sym, ap, _∙_}
-use mathlib.Core.Bool.{cond}
 use Prim.Native.Nat.{_+_}
 use lib.ListN.{drop}
 use Rattle.std.proofs.shelf.Lists.{at-drop-all}
-use Rattle.std.specs.declared.option.Option.the-variants.{Some}
-use Rattle.dayfile.specs.Text.{rest-of}
 use Rattle.dayfile.specs.Readers.{fields-left, look}
 use Rattle.dayfile.specs.Calls.{first-fault}
-use Rattle.dayfile.proofs.Faults.{fault-more, fault-none}
+use Rattle.dayfile.proofs.Faults.{fault-here, fault-on, fault-none}
 use Rattle.dayfile.proofs.calls.first_fault.Needs as need
 
 pub returns-in-rest : need.returns-in-rest
@@ -20,10 +17,7 @@ pub returns-then-not-fits : need.returns-then-not-fits
 returns-then-not-fits c =
     let fm = c .args .forms .now in
     let i = c .loop-form .form-index in
-    let fs = fields-left (c .loop-form .fields) in
-    let n = c .in-Some .number in
-    ap (λ t. cond t (first-fault (drop (i + 1) fm) (rest-of fs)) (Some n)) (c .if-not-fits .ensures tt)
-    ∙ sym (fault-more fm i fs n (look (c .in-Some .field)) (c .loop-form-test .taken) (c .in-Some .ensures tt .field))
+    fault-here fm i (fields-left (c .loop-form .fields)) (c .in-Some .number) (look (c .in-Some .field)) (c .loop-form-test .taken) (c .in-Some .ensures tt .field) (c .if-not-fits .ensures tt)
     ∙ c .loop-form .inv
     ∙ ap (first-fault fm) (c .next-field .ensures .rest)
 
@@ -31,11 +25,8 @@ pub loop-form-again : need.loop-form-again
 loop-form-again c =
     let fm = c .args .forms .now in
     let i = c .loop-form .form-index in
-    let fs = fields-left (c .loop-form .fields) in
-    let n = c .in-Some .number in
     ap (first-fault (drop (i + 1) fm)) (c .next-field-in-loop-form .ensures .rest)
-    ∙ ap (λ t. cond t (first-fault (drop (i + 1) fm) (rest-of fs)) (Some n)) (c .if-not-fits .ensures tt)
-    ∙ sym (fault-more fm i fs n (look (c .in-Some .field)) (c .loop-form-test .taken) (c .in-Some .ensures tt .field))
+    ∙ fault-on fm i (fields-left (c .loop-form .fields)) (c .in-Some .number) (look (c .in-Some .field)) (c .loop-form-test .taken) (c .in-Some .ensures tt .field) (c .if-not-fits .ensures tt)
     ∙ c .loop-form .inv
 
 pub returns : need.returns

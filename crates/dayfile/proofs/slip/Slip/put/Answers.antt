@@ -7,7 +7,7 @@ use Rattle.dayfile.proofs.slip.Slip.put.Needs as need
 pub ghost-self : need.ghost-self
 ghost-self c =
     let s = c .args .self .now in
-    (omega arith, (zeros-more (s .bytes) (s .size) (c .args .byte) (omega arith) (s .zeros), tt))
+    (omega arith, (zeros-more 120 (s .bytes) (s .size) (c .args .byte) (s .zeros), tt))
 
 pub returns : need.returns
 returns c =
