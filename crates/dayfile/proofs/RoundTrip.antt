@@ -26,13 +26,13 @@ use Rattle.dayfile.specs.declared.kinds.Form.{Form}
 use Rattle.dayfile.specs.declared.kinds.Form.the-variants.{Number, Date, Side, Sender, NumberOrBlank, DateOrBlank}
 use Rattle.dayfile.specs.declared.kinds.Kind.{Kind}
 use Rattle.dayfile.specs.declared.kinds.Kind.the-variants as kind
-use Rattle.dayfile.specs.Text.{rest-of, fields, if-ok}
+use Rattle.dayfile.specs.Text.{commas, if-ok}
 use Rattle.dayfile.specs.Looks.{Look, look-of, numbered, next-number, line-looks}
 use Rattle.dayfile.specs.Readers.{line-fields}
 use Rattle.dayfile.specs.Kinds.{kind-letter, forms, fields-kind}
 use Rattle.dayfile.specs.Values.{number-of, date-of, side-of, sender-of, is-blank, fits}
 use Rattle.dayfile.specs.Calls.{number-at, first-fault, call-of, of-no-field, faultless, kind-call, fields-call, read-call}
-use Rattle.dayfile.specs.Spelling.{figures, item-text, Bounded, side-letter, sender-letter, number-or-nothing, date-or-nothing, commas, spelled, Writable, Read-spelled}
+use Rattle.dayfile.specs.Spelling.{figures, item-text, Bounded, side-letter, sender-letter, number-or-nothing, date-or-nothing, Read-spelled}
 use Rattle.dayfile.proofs.Figures.{own}
 use Rattle.dayfile.proofs.Spelled.{Plain, plain-digits, fields-commas, digits-figures, number-back, date-back}
 

@@ -19,15 +19,15 @@ use Rattle.std.proofs.shelf.Ways.{tells}
 use Rattle.std.proofs.shelf.Numerals.{tells-allDigits}
 use Rattle.std.proofs.shelf.Decimals.{digits-decimal, value-decimal, length-decimal-le, decimal-some, decimal-digit, first-decimal}
 use Rattle.calendar.specs.declared.Date.{Date}
-use Rattle.dayfile.specs.Text.{prepend, fields}
+use Rattle.dayfile.specs.Text.{prepend, fields, commas, Without}
 use Rattle.dayfile.specs.Looks.{Look, date, number, letter, look-of}
 use Rattle.dayfile.specs.Values.{value, value-from, is-numeral, number-of, date-of}
-use Rattle.dayfile.specs.Spelling.{figures, commas}
+use Rattle.dayfile.specs.Spelling.{figures}
 use Rattle.dayfile.proofs.Figures.{own}
 
 -- bytes without a comma
 abbrev pub Plain : List ℕ → Type 0
-Plain bs = All (λ b. b ≡ 44 → ⊥) bs
+Plain bs = Without 44 bs
 
 pub plain-digits : (bs : List ℕ) → allDigits bs ≡ true → Plain bs
 plain-digits [] d = tt

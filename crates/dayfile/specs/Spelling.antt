@@ -17,6 +17,7 @@ use Rattle.rulebook.specs.declared.Call.{Call}
 use Rattle.rulebook.specs.declared.Call.the-variants.{Opening, NewIssue, Placing, Instructing, Cancelling, Blocking, Releasing, Round, Closing, Redeeming, AskingStatus, AskingHolding}
 use Rattle.dayfile.specs.declared.kinds.Kind.{Kind}
 use Rattle.dayfile.specs.declared.kinds.Kind.the-variants as kind
+use Rattle.dayfile.specs.Text.{commas}
 use Rattle.dayfile.specs.Kinds.{kind-letter}
 use Rattle.dayfile.specs.Calls.{read-call}
 
@@ -101,11 +102,6 @@ call-items Closing = []
 call-items (Redeeming i p) = a-number i ∷ a-number p ∷ []
 call-items (AskingStatus s) = a-number s ∷ []
 call-items (AskingHolding p i) = a-number p ∷ a-number i ∷ []
-
--- a field, and others each behind a comma
-abbrev pub commas : List ℕ → List (List ℕ) → List ℕ
-commas f [] = f
-commas f (g ∷ gs) = f ++ 44 ∷ commas g gs
 
 -- the line that makes a call
 abbrev pub spelled : Call → List ℕ

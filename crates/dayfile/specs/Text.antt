@@ -2,8 +2,10 @@
 use mathlib.Core.Path.{_≡_}
 use mathlib.Core.Bool.{cond}
 use mathlib.Core.List.{List, [], _∷_, _++_}
+use mathlib.Core.Logic.{_⊎_}
 use Prim.Native.Nat.{ℕ}
 use lib.Dec.{eqb}
+use Rattle.std.specs.shelf.Lists.{All}
 use Rattle.std.specs.declared.option.Option.{Option}
 use Rattle.std.specs.declared.option.Option.the-variants.{Some, None}
 use Rattle.std.specs.declared.result.Result.{Result}
@@ -49,6 +51,32 @@ if-some (Some x) f = f x
 abbrev pub if-ok : {X Y E : Type 0} → Result X E → (X → Result Y E) → Result Y E
 if-ok (Ok x) f = f x
 if-ok (Err e) f = Err e
+
+-- bytes among which a mark does not stand
+abbrev pub Without : ℕ → List ℕ → Type 0
+Without mark bs = All (λ b. b ≡ mark → ⊥) bs
+
+-- lines, each with byte 10 behind it
+abbrev pub ended : List (List ℕ) → List ℕ
+ended [] = []
+ended (l ∷ ls) = l ++ 10 ∷ ended ls
+
+-- a field, and others each behind a comma
+abbrev pub commas : List ℕ → List (List ℕ) → List ℕ
+commas f [] = f
+commas f (g ∷ gs) = f ++ 44 ∷ commas g gs
+
+abbrev pub commas-between : List (List ℕ) → List ℕ
+commas-between [] = []
+commas-between (f ∷ fs) = commas f fs
+
+-- no line has a byte 10, and the lines with byte 10 behind each are the file, which may lack the last one
+abbrev pub Lines-parted : Type 0
+Lines-parted = (file : List ℕ) → All (Without 10) (lines file) × ((ended (lines file) ≡ file) ⊎ (ended (lines file) ≡ file ++ 10 ∷ []))
+
+-- no field has a comma, and the fields with commas between them are the line
+abbrev pub Fields-parted : Type 0
+Fields-parted = (line : List ℕ) → All (Without 44) (fields line) × (commas-between (fields line) ≡ line)
 
 -- a file whose last byte b is not 10 has the same lines with byte 10 behind it
 abbrev pub Same-lines : Type 0

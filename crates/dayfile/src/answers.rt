@@ -13,6 +13,7 @@ use rulebook::Fate;
 pub fn write_answer(number: u64, answer: Answer, out: &mut [u8; 120]) -> usize
     ensures bytes { λ _. ⌜ now (out .exit) ≡ padded (answer-line number answer) ⌝ }
     ensures size { λ r. ⌜ r ≡ length (answer-line number answer) ⌝ }
+    ensures room { λ r. ⌜ r ≤ 120 ⌝ }
 {
     let mut slip = Slip::new();
     slip.put_number(number);

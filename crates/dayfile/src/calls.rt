@@ -4,7 +4,8 @@ ghost use Rattle.dayfile.specs.Text.{rest-of};
 ghost use Rattle.dayfile.specs.Looks.{field-at};
 ghost use Rattle.dayfile.specs.Readers.{look, fields-left};
 ghost use Rattle.dayfile.specs.Calls.{number-at, date-at, side-at, sender-at, first-fault, placement-of, order-of, pledge-of, call-of, read-call};
-ghost use Rattle.dayfile.specs.Spelling.{Read-spelled};
+ghost use Rattle.dayfile.specs.Kinds.{kind-letter};
+ghost use Rattle.dayfile.specs.Spelling.{kind-called, Read-spelled};
 use crate::fields::Field;
 use crate::fields::Fields;
 use crate::kinds::Form;
@@ -45,6 +46,26 @@ pub fn read_call(line: &[u8]) -> Result<Call, Fault>
             field: number as u64,
         }),
         None => Ok(call_of(kind, fields)),
+    }
+}
+
+// The letter of a call's kind.
+pub fn call_letter(call: Call) -> char
+    ensures { λ r. ⌜ r ≡ kind-letter (kind-called call) ⌝ }
+{
+    match call {
+        Call::Opening => 'D',
+        Call::NewIssue { .. } => 'N',
+        Call::Placing(_) => 'P',
+        Call::Instructing(_) => 'T',
+        Call::Cancelling { .. } => 'X',
+        Call::Blocking(_) => 'B',
+        Call::Releasing { .. } => 'F',
+        Call::Round => 'R',
+        Call::Closing => 'E',
+        Call::Redeeming { .. } => 'M',
+        Call::AskingStatus { .. } => 'S',
+        Call::AskingHolding { .. } => 'H',
     }
 }
 

@@ -2,7 +2,7 @@
 ghost use mathlib.Core.Path.{_≡_};
 ghost use Rattle.std.specs.Options.{mapped};
 ghost use Rattle.std.specs.shelf.Text.{allDigits};
-ghost use Rattle.dayfile.specs.Text.{first-of, rest-of};
+ghost use Rattle.dayfile.specs.Text.{first-of, rest-of, Fields-parted};
 ghost use Rattle.dayfile.specs.Looks.{look-of, letter-of};
 ghost use Rattle.dayfile.specs.Readers.{look, shown, fields-left, started, line-fields};
 use crate::reader::end_of;
@@ -67,7 +67,8 @@ pub struct Fields<'a> {
 impl<'a> Fields<'a> {
     // A reader before the first field; an empty line, and one of more than 120 bytes, are refused.
     pub fn new(line: &'a [u8]) -> Result<Fields<'a>, Refusal>
-        ensures { λ r. ⌜ started r ≡ line-fields (now (line .entry)) ⌝ }
+        ensures fields { λ r. ⌜ started r ≡ line-fields (now (line .entry)) ⌝ }
+        ensures parted { λ _. ⌜ Fields-parted ⌝ }
     {
         if line.is_empty() || line.len() > 120 {
             return Err(Refusal::LineLength);

@@ -9,6 +9,7 @@ mod values;
 
 pub use answers::write_answer;
 pub use calls::Fault;
+pub use calls::call_letter;
 pub use calls::read_call;
 pub use fields::Field;
 pub use fields::Fields;

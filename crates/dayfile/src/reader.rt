@@ -3,7 +3,7 @@ ghost use mathlib.Core.Path.{_≡_};
 ghost use Prim.Native.Nat.{_+_, _^_, _≤_, _<_};
 ghost use lib.ListN.{length, drop};
 ghost use Rattle.std.specs.Options.{mapped};
-ghost use Rattle.dayfile.specs.Text.{before, first-of, rest-of, Same-lines};
+ghost use Rattle.dayfile.specs.Text.{before, first-of, rest-of, Lines-parted, Same-lines};
 ghost use Rattle.dayfile.specs.Readers.{lines-left, begun, file-lines};
 use refusals::Refusal;
 
@@ -18,6 +18,7 @@ impl<'a> Lines<'a> {
     // A reader before the first line; a file of more than 65,536 bytes is refused.
     pub fn new(file: &'a [u8]) -> Result<Lines<'a>, Refusal>
         ensures lines { λ r. ⌜ begun r ≡ file-lines (now (file .entry)) ⌝ }
+        ensures parted { λ _. ⌜ Lines-parted ⌝ }
         ensures ends { λ _. ⌜ Same-lines ⌝ }
     {
         if file.len() > 65536 {

@@ -32,4 +32,4 @@ returns c =
     let valued : written (c .put-values .last .slip) ≡ behind (decimal n ++ 44 ∷ answer-letter a ∷ []) (answer-values a) = c .put-values .ensures .text ∙ ap (λ u. behind u (answer-values a)) lettered in
     let whole : written s ≡ answer-line n a = c .put .ensures .text ∙ ap (λ u. u ++ 10 ∷ []) valued in
     let room : s .size < 120 = omega (arith, length-decimal-le 20 n (omega arith) (omega arith) (omega arith)) in
-    record { bytes = slip-bytes s room ∙ ap padded whole; size = slip-size s room ∙ ap length whole }
+    record { bytes = slip-bytes s room ∙ ap padded whole; size = slip-size s room ∙ ap length whole; room = omega (arith, room) }
