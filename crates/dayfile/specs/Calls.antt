@@ -59,8 +59,8 @@ order-of fs = record {
   price = number-of (field-at 9 fs);
   «value_date» = date-at 10 fs;
   «return_date» = date-of (field-at 11 fs);
-  «return_price» = number-of (field-at 12 fs)
-  }
+  «return_price» = number-of (field-at 12 fs);
+}
 
 -- participant, side, issue, nominal
 abbrev pub pledge-of : List (ℕ × Look) → Pledge

@@ -82,18 +82,18 @@ call-items Opening = []
 call-items (NewIssue i d) = a-number i ∷ a-date d ∷ []
 call-items (Placing p) = a-number (p .issue) ∷ a-number (p .participant) ∷ a-letter (side-letter (p .side)) ∷ a-number (p .nominal) ∷ a-number (p .price) ∷ []
 call-items (Instructing o) =
-  a-letter (sender-letter (o .sender))
-  ∷ a-number (o .transferor)
-  ∷ a-letter (side-letter (o .«transferor_side»))
-  ∷ a-number (o .acquirer)
-  ∷ a-letter (side-letter (o .«acquirer_side»))
-  ∷ a-number (o .issue)
-  ∷ a-number (o .nominal)
-  ∷ number-or-nothing (o .price)
-  ∷ a-date (o .«value_date»)
-  ∷ date-or-nothing (o .«return_date»)
-  ∷ number-or-nothing (o .«return_price»)
-  ∷ []
+    a-letter (sender-letter (o .sender))
+    ∷ a-number (o .transferor)
+    ∷ a-letter (side-letter (o .«transferor_side»))
+    ∷ a-number (o .acquirer)
+    ∷ a-letter (side-letter (o .«acquirer_side»))
+    ∷ a-number (o .issue)
+    ∷ a-number (o .nominal)
+    ∷ number-or-nothing (o .price)
+    ∷ a-date (o .«value_date»)
+    ∷ date-or-nothing (o .«return_date»)
+    ∷ number-or-nothing (o .«return_price»)
+    ∷ []
 call-items (Cancelling p s) = a-number p ∷ a-number s ∷ []
 call-items (Blocking p) = a-number (p .participant) ∷ a-letter (side-letter (p .side)) ∷ a-number (p .issue) ∷ a-number (p .nominal) ∷ []
 call-items (Releasing p b) = a-number p ∷ a-number b ∷ []

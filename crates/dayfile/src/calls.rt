@@ -188,7 +188,9 @@ fn number_at(fields: Fields<'_>, number: usize) -> u64
 fn date_at(fields: Fields<'_>, number: usize) -> Date
     ensures { λ r. ⌜ r ≡ date-at number (fields-left (fields .entry)) ⌝ }
 {
-    field_at(fields, number).date().unwrap_or(Date { number: 0 })
+    field_at(fields, number)
+        .date()
+        .unwrap_or(Date { number: 0 })
 }
 
 // The side in a field, or the own one.
@@ -202,5 +204,7 @@ fn side_at(fields: Fields<'_>, number: usize) -> Side
 fn sender_at(fields: Fields<'_>, number: usize) -> Sender
     ensures { λ r. ⌜ r ≡ sender-at number (fields-left (fields .entry)) ⌝ }
 {
-    field_at(fields, number).sender().unwrap_or(Sender::Transferor)
+    field_at(fields, number)
+        .sender()
+        .unwrap_or(Sender::Transferor)
 }

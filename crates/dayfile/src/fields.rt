@@ -88,7 +88,11 @@ impl<'a> Fields<'a> {
             return None;
         };
         let end = end_of(rest, 0, b',');
-        self.rest = if end < rest.len() { Some(&rest[end + 1..]) } else { None };
+        self.rest = if end < rest.len() {
+            Some(&rest[end + 1..])
+        } else {
+            None
+        };
         self.number = self.number.saturating_add(1);
         Some((self.number, Field::of(&rest[0..end])))
     }

@@ -85,7 +85,10 @@ impl Kind {
                 Form::NumberOrBlank,
             ],
             Kind::Blocking => &[Form::Number, Form::Side, Form::Number, Form::Number],
-            Kind::Cancelling | Kind::Releasing | Kind::Redeeming | Kind::AskingHolding => &[Form::Number, Form::Number],
+            Kind::Cancelling | Kind::Releasing | Kind::Redeeming | Kind::AskingHolding => &[
+                Form::Number,
+                Form::Number,
+            ],
             Kind::AskingStatus => &[Form::Number],
         }
     }

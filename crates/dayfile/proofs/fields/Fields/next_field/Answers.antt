@@ -19,8 +19,9 @@ returns c =
     let n = c .args .self .now .number in
     let part = take (end - 0) rest in
     let e : parts-left (c .args .self .now .rest) ≡ part ∷ parts-left (c .if-end-rest .self) = ap parts-left (c .in-Some .is) ∙ elim (c .if-end-rest .came) [
-      then-end-rest w ↦ field-mark rest end (c .end-of-end .ensures .value) (w .if-end-rest .taken) ∙ ap (λ l. part ∷ l) (ap fields (sym (take-rest rest (end + 1))) ∙ ap parts-left (sym (w .self-is)))
-    | else-end-rest w ↦ field-last rest end (c .end-of-end .ensures .value) (w .if-end-rest .left) ∙ ap (λ o. part ∷ parts-left o) (sym (w .self-is)) ] in
+      | then-end-rest w ↦ field-mark rest end (c .end-of-end .ensures .value) (w .if-end-rest .taken) ∙ ap (λ l. part ∷ l) (ap fields (sym (take-rest rest (end + 1))) ∙ ap parts-left (sym (w .self-is)))
+      | else-end-rest w ↦ field-last rest end (c .end-of-end .ensures .value) (w .if-end-rest .left) ∙ ap (λ o. part ∷ parts-left o) (sym (w .self-is))
+    ] in
     let m = c .saturating-add-self .ensures in
     let whole : numbered (next-number n) (parts-left (c .args .self .now .rest)) ≡ (next-number n, look-of part) ∷ numbered (next-number (next-number n)) (parts-left (c .if-end-rest .self)) = ap (numbered (next-number n)) e in
     record {

@@ -22,6 +22,7 @@ returns c =
     let end = c .end-of-end .result in
     let part = take (end - from) (drop from file) in
     let e : lines (drop from file) ≡ part ∷ lines (drop (c .if-end-file .self) file) = elim (c .if-end-file .came) [
-      then-end-file w ↦ cut-mark 10 [] file from end (c .end-of-end .ensures .value) (w .if-end-file .taken) ∙ ap (λ n. part ∷ lines (drop n file)) (sym (w .self-is))
-    | else-end-file w ↦ cut-last 10 [] file from end (c .end-of-end .ensures .value) (λ b. refl) (c .if-from-file .left) (w .if-end-file .left) ∙ ap (λ l. part ∷ lines l) (sym (drop-all end file (w .if-end-file .left)) ∙ ap (λ n. drop n file) (sym (w .self-is))) ] in
+      | then-end-file w ↦ cut-mark 10 [] file from end (c .end-of-end .ensures .value) (w .if-end-file .taken) ∙ ap (λ n. part ∷ lines (drop n file)) (sym (w .self-is))
+      | else-end-file w ↦ cut-last 10 [] file from end (c .end-of-end .ensures .value) (λ b. refl) (c .if-from-file .left) (w .if-end-file .left) ∙ ap (λ l. part ∷ lines l) (sym (drop-all end file (w .if-end-file .left)) ∙ ap (λ n. drop n file) (sym (w .self-is)))
+    ] in
     record { line = ap first-of (sym e); rest = ap rest-of (sym e) }
