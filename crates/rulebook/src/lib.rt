@@ -1,4 +1,5 @@
 // The words of the register: what is called, and what is answered.
+ghost use Rattle.rulebook.specs.Sheet.{Sheet};
 use calendar::Date;
 use refusals::Refusal;
 
@@ -107,4 +108,11 @@ pub enum Answer {
     Status { fate: Fate, cause: Option<Refusal> },
     Holds(Holding),
     Refused { refusal: Refusal, field: u64 },
+}
+
+// The edge cases of the rules hold.
+pub fn edge_cases_hold() -> u8
+    ensures { λ _. ⌜ Sheet ⌝ }
+{
+    0
 }
