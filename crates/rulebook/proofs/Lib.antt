@@ -1,2 +1,3 @@
 pub mod Sheet
 pub mod Day
+pub mod Rising

@@ -7,3 +7,5 @@ pub mod Rounds
 pub mod Rules
 pub mod Journal
 pub mod Sheet
+pub mod Laws
+pub mod Works

@@ -1,4 +1,5 @@
 // The words of the register: what is called, and what is answered.
+ghost use Rattle.rulebook.specs.Laws.{Checks-rise};
 ghost use Rattle.rulebook.specs.Sheet.{Sheet};
 use calendar::Date;
 use refusals::Refusal;
@@ -113,6 +114,13 @@ pub enum Answer {
 // The edge cases of the rules hold.
 pub fn edge_cases_hold() -> u8
     ensures { λ _. ⌜ Sheet ⌝ }
+{
+    0
+}
+
+// Every call's checks run in the order of the table.
+pub fn checks_rise() -> u8
+    ensures { λ _. ⌜ Checks-rise ⌝ }
 {
     0
 }
