@@ -1,3 +1,4 @@
 pub mod Sheet
 pub mod Day
 pub mod Rising
+pub mod Week
