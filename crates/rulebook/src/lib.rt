@@ -1,5 +1,5 @@
 // The words of the register: what is called, and what is answered.
-ghost use Rattle.rulebook.specs.Laws.{Checks-rise};
+ghost use Rattle.rulebook.specs.Laws.{Checks-rise, State-refuses, Turns-granted, Refusal-keeps, Knows-plainly};
 ghost use Rattle.rulebook.specs.Sheet.{Sheet};
 use calendar::Date;
 use refusals::Refusal;
@@ -121,6 +121,13 @@ pub fn edge_cases_hold() -> u8
 // Every call's checks run in the order of the table.
 pub fn checks_rise() -> u8
     ensures { λ _. ⌜ Checks-rise ⌝ }
+{
+    0
+}
+
+// What a state does not take is refused, opening and closing are not, and a refusal changes nothing.
+pub fn refusals_keep() -> u8
+    ensures { λ _. ⌜ State-refuses × Turns-granted × Refusal-keeps × Knows-plainly ⌝ }
 {
     0
 }
