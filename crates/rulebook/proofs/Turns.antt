@@ -101,13 +101,13 @@ refusal-keeps v c =
 
 pub turns-granted : Turns-granted
 turns-granted =
-    record
-      { opening = λ v e.
-        ap (λ (s : ℕ). answer-by (ruled (cond (eqb s shut) (Ok tt) (Err WrongState)) (work (v .setting) (v .amounts) (v .book) call.Opening))) e
-      ; closing = λ v e.
-        cond-both (suits (v .book .standing .state) call.Closing) (Ok tt) (Err WrongState)
-          (λ x. Closes (ruled x (close-work (v .setting) (v .amounts) (v .book)))) (λ _. closes v) (λ n. absurd (differ (sym e ∙ n)))
-      }
+    record {
+      opening = λ v e.
+          ap (λ (s : ℕ). answer-by (ruled (cond (eqb s shut) (Ok tt) (Err WrongState)) (work (v .setting) (v .amounts) (v .book) call.Opening))) e;
+      closing = λ v e.
+          cond-both (suits (v .book .standing .state) call.Closing) (Ok tt) (Err WrongState)
+          (λ x. Closes (ruled x (close-work (v .setting) (v .amounts) (v .book)))) (λ _. closes v) (λ n. absurd (differ (sym e ∙ n)));
+    }
   where
     differ : true ≡ false → ⊥
     differ e = let z : _≡_ {A = ℕ} 0 1 = cc in absurd (omega arith)

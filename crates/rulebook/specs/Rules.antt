@@ -145,12 +145,12 @@ status-of (Some i) = answer.Status (i .fate) (i .cause)
 -- what a participant holds of an issue
 abbrev pub holding-of : Amounts → List Blocking → ℕ → ℕ → Holding
 holding-of a bs p i =
-    record
-      { own = a .nominal (place p i Own)
-      ; customer = a .nominal (place p i Customer)
-      ; «blocked_own» = blocked bs (place p i Own)
-      ; «blocked_customer» = blocked bs (place p i Customer)
-      }
+    record {
+      own = a .nominal (place p i Own);
+      customer = a .nominal (place p i Customer);
+      «blocked_own» = blocked bs (place p i Own);
+      «blocked_customer» = blocked bs (place p i Customer);
+    }
 
 -- the checks of a call
 abbrev pub checks : Setting → Amounts → Book → Call → List Check
