@@ -1,4 +1,5 @@
 pub mod Sheet
 pub mod Day
+pub mod Week
 pub mod Rising
 pub mod Totals

@@ -145,17 +145,19 @@ shape-fits o =
     && (not (is-inside o && is-acquirer (o .sender))
     && (not (isSome (o .price) && (is-inside o || (is-customer (o .«transferor_side») || is-customer (o .«acquirer_side»))))
     && cond
-       (isSome (o .price) && isSome (o .«return_date»))
-       (isSome (o .«return_price»))
-       (not (isSome (o .«return_price»)))))
+    (isSome (o .price) && isSome (o .«return_date»))
+    (isSome (o .«return_price»))
+    (not (isSome (o .«return_price»)))))
 
 abbrev pub instruct-checks : Setting → Book → Order → List Check
 instruct-checks st k o =
     (is-on-a-day k, WrongState)
     ∷ (knows st (o .transferor) && knows st (o .acquirer), UnknownParticipant)
     ∷ (is-registered k (o .issue), WrongIssue)
-    ∷ ( nominal-fits (o .nominal) && (blank-or price-fits (o .price) && blank-or price-fits (o .«return_price»))
-      , AmountLimits)
+    ∷ (
+      nominal-fits (o .nominal) && (blank-or price-fits (o .price) && blank-or price-fits (o .«return_price»)),
+      AmountLimits,
+    )
     ∷ (dates-fit st k o, WrongDate)
     ∷ (shape-fits o, InstructionShape)
     ∷ (has-room 256 (k .instructions), NoPlaceLeft)

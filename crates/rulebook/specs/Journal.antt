@@ -85,11 +85,11 @@ outcome s h c = rule (setting-of s) (reads (s .funds) (h .journal)) (h .book) c
 
 abbrev pub step : Start → Past → Call → Past
 step s h c =
-    record
-      { book = book-by (h .book) (outcome s h c)
-      ; journal = h .journal ++ moves-by (outcome s h c)
-      ; departed = leaving (h .book) c ++ h .departed
-      }
+    record {
+      book = book-by (h .book) (outcome s h c);
+      journal = h .journal ++ moves-by (outcome s h c);
+      departed = leaving (h .book) c ++ h .departed;
+    }
 
 -- a list of calls, from any past; and from a new register
 abbrev pub history-from : Start → Past → List Call → Past
@@ -137,11 +137,11 @@ run v (c ∷ cs) =
 -- what a new register shows
 abbrev pub first-view : Start → View
 first-view s =
-    record
-      { setting = setting-of s
-      ; book = new-book
-      ; amounts = record { nominal = λ _. 0; balance = λ x. had (s .funds) x }
-      }
+    record {
+      setting = setting-of s;
+      book = new-book;
+      amounts = record { nominal = λ _. 0; balance = λ x. had (s .funds) x };
+    }
 
 -- what the journal of a list of calls shows
 abbrev pub told : Start → List Call → View

@@ -67,9 +67,9 @@ State-refuses =
 -- each in its own state, opening and closing are never refused
 pub record Turns-granted : Type 0 where
   pub opening : (v : View) → v .book .standing .state ≡ shut
-    → next v call.Opening .1 ≡ answer.Opened (opening-day (v .setting) (v .book))
+      → next v call.Opening .1 ≡ answer.Opened (opening-day (v .setting) (v .book))
   pub closing : (v : View) → suits (v .book .standing .state) call.Closing ≡ true
-    → (legs : ℕ) × (refused : ℕ) × (next v call.Closing .1 ≡ answer.Closed legs refused)
+      → (legs : ℕ) × (refused : ℕ) × (next v call.Closing .1 ≡ answer.Closed legs refused)
 
 -- a refused call changes nothing
 abbrev pub Refusal-keeps : Type 0
@@ -130,9 +130,9 @@ pub record Lawful-past (s : Start) (h : Past) : Type 0 where
   pub bounded : (i : ℕ) → outstanding (setting-of s) (reads (s .funds) (h .journal)) i ≤ 1000000000000000
   -- a balance is that at the start and what was received less what was paid; all together stay what they were
   pub balance : (x : ℕ)
-    → reads (s .funds) (h .journal) .balance x + paid (h .journal) x ≡ had (s .funds) x + received (h .journal) x
+      → reads (s .funds) (h .journal) .balance x + paid (h .journal) x ≡ had (s .funds) x + received (h .journal) x
   pub conserved : sum-below (length (s .funds .balances)) (λ x. reads (s .funds) (h .journal) .balance x)
-    ≡ sum-below (length (s .funds .balances)) (λ x. had (s .funds) x)
+      ≡ sum-below (length (s .funds .balances)) (λ x. had (s .funds) x)
   -- no leg stands twice
   pub once : (n : ℕ) (e : Leg) → times (h .journal) n e ≤ 1
   -- each serial given stands once, on the list or among those that left it
@@ -140,14 +140,14 @@ pub record Lawful-past (s : Start) (h : Past) : Type 0 where
   -- never two of settled, refused and cancelled; exactly one once the value date is closed; a joined one is what its partner is
   pub never-two : (n : ℕ) → endings h n ≤ 1
   pub decided : All
-    (λ i. day-closed (h .book .standing) (i .order .«value_date» .number) ≡ true → endings h (principal i) ≡ 1)
-    (accepted h)
+      (λ i. day-closed (h .book .standing) (i .order .«value_date» .number) ≡ true → endings h (principal i) ≡ 1)
+      (accepted h)
   -- a return is never both settled and refused; exactly one once the return date of a settled repo is closed
   pub return-never-two : (n : ℕ) → return-endings h n ≤ 1
   pub return-decided : All
-    (λ i. (d : Date) → i .order .«return_date» ≡ Some d → day-closed (h .book .standing) (d .number) ≡ true
+      (λ i. (d : Date) → i .order .«return_date» ≡ Some d → day-closed (h .book .standing) (d .number) ≡ true
       → times (h .journal) (principal i) first ≡ 1 → return-endings h (principal i) ≡ 1)
-    (accepted h)
+      (accepted h)
   -- whatever call comes next, what has ended stays so
   pub stays : (c : Call) → Stays h (step s h c)
 
@@ -216,23 +216,23 @@ redeems i (redeemed d p k u c y) = cond (eqb k i) (u + c) 0
 pub record Orderly-past (s : Start) (h : Past) : Type 0 where
   -- a joined instruction's partner has a lower serial, and the same order but for the sender
   pub partner : All
-    (λ i. (n : ℕ) → i .fate ≡ fate.Joined n
+      (λ i. (n : ℕ) → i .fate ≡ fate.Joined n
       → (n < i .serial)
-        × (total (λ x. one-if (has-serial n x && same-order (x .order) (counter (i .order)))) (accepted h) ≡ 1))
-    (accepted h)
+      × (total (λ x. one-if (has-serial n x && same-order (x .order) (counter (i .order)))) (accepted h) ≡ 1))
+      (accepted h)
   -- one that was matched has exactly one joined to it, inside one participant none; no other has any
   pub joined-once : All
-    (λ i. total (λ x. one-if (joins (i .serial) (x .fate))) (accepted h)
+      (λ i. total (λ x. one-if (joins (i .serial) (x .fate))) (accepted h)
       ≡ one-if (was-matched i && not (is-inside (i .order))))
-    (accepted h)
+      (accepted h)
   -- each leg in the journal is one accepted instruction's, on its date, between its places, of its nominal and price
   pub legs : All
-    (λ v. total (λ i. one-if (carries-out (setting-of s) v i)) (accepted h) ≡ one-if (is-settlement v))
-    (h .journal)
+      (λ v. total (λ i. one-if (carries-out (setting-of s) v i)) (accepted h) ≡ one-if (is-settlement v))
+      (h .journal)
   pub returns : Returns-behind [] (h .journal)
   -- an issue's outstanding nominal is what was placed less what was redeemed
   pub issued : (i : ℕ)
-    → outstanding (setting-of s) (reads (s .funds) (h .journal)) i + total (redeems i) (h .journal)
+      → outstanding (setting-of s) (reads (s .funds) (h .journal)) i + total (redeems i) (h .journal)
       ≡ total (places i) (h .journal)
 
 -- the serial of a leg
@@ -250,8 +250,8 @@ abbrev pub Short : Start → Amounts → List Blocking → Instruction → Type 
 Short s a bs i =
     ((i .cause ≡ Some NominalShort) × (free a bs (giver (i .order) (last-leg (i .fate))) < i .order .nominal))
     ⊎ ((i .cause ≡ Some MoneyShort)
-      × (i .order .nominal ≤ free a bs (giver (i .order) (last-leg (i .fate))))
-      × (affords a (leg-payment (setting-of s) (i .order) (last-leg (i .fate))) ≡ false))
+    × (i .order .nominal ≤ free a bs (giver (i .order) (last-leg (i .fate))))
+    × (affords a (leg-payment (setting-of s) (i .order) (last-leg (i .fate))) ≡ false))
 
 -- an instruction that a closing from h to h′ refused was short at its last try, when the legs of lower serials had settled
 pub record Tried-last (s : Start) (h h′ : Past) (i : Instruction) : Type 0 where
@@ -266,8 +266,8 @@ abbrev pub Refused-short : Start → Past → Type 0
 Refused-short s h =
     is-on-a-day (h .book) ≡ true
     → All
-      (λ i. is-leg-refused (i .fate) && was-matched i ≡ true → Tried-last s h (step s h call.Closing) i)
-      (step s h call.Closing .book .instructions .standing)
+    (λ i. is-leg-refused (i .fate) && was-matched i ≡ true → Tried-last s h (step s h call.Closing) i)
+    (step s h call.Closing .book .instructions .standing)
 
 -- the rules' own laws
 pub record Rules-lawful (s : Start) (cs : List Call) : Type 0 where

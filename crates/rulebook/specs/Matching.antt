@@ -53,19 +53,19 @@ same-order o q =
 -- the order that the other party sends: the same but for the sender
 abbrev pub counter : Order → Order
 counter o =
-    record
-      { sender = other (o .sender)
-      ; transferor = o .transferor
-      ; «transferor_side» = o .«transferor_side»
-      ; acquirer = o .acquirer
-      ; «acquirer_side» = o .«acquirer_side»
-      ; issue = o .issue
-      ; nominal = o .nominal
-      ; price = o .price
-      ; «value_date» = o .«value_date»
-      ; «return_date» = o .«return_date»
-      ; «return_price» = o .«return_price»
-      }
+    record {
+      sender = other (o .sender);
+      transferor = o .transferor;
+      «transferor_side» = o .«transferor_side»;
+      acquirer = o .acquirer;
+      «acquirer_side» = o .«acquirer_side»;
+      issue = o .issue;
+      nominal = o .nominal;
+      price = o .price;
+      «value_date» = o .«value_date»;
+      «return_date» = o .«return_date»;
+      «return_price» = o .«return_price»;
+    }
 
 -- x is unmatched and has the other party's order
 abbrev pub is-partner : Order → Instruction → Bool

@@ -113,12 +113,12 @@ ended d i =
     (alike (i .fate) fate.Unmatched)
     (turned i fate.Refused (Some NoPartner))
     (cond
-     (alike (i .fate) fate.Matched)
-     (turned i fate.Refused (i .cause))
-     (cond
-      (alike (i .fate) fate.RepoOut && is-day d (i .order .«return_date»))
-      (turned i fate.ReturnRefused (i .cause))
-      i))
+    (alike (i .fate) fate.Matched)
+    (turned i fate.Refused (i .cause))
+    (cond
+    (alike (i .fate) fate.RepoOut && is-day d (i .order .«return_date»))
+    (turned i fate.ReturnRefused (i .cause))
+    i))
 
 abbrev pub ended-all : ℕ → List Instruction → List Instruction
 ended-all d is = map (ended d) is

@@ -113,15 +113,18 @@ closing-list st a k = ended-all (today k) (rounded st a k .0)
 abbrev pub shuts : Book → List Instruction → Book
 shuts k is = book (closed (k .standing)) (k .issues) (k .blockings) (standing-now (k .instructions) is)
 
+abbrev pub legs-refused : Setting → Amounts → Book → ℕ
+legs-refused st a k = moved-to is-leg-refused (rounded st a k .0) (closing-list st a k)
+
+abbrev pub close-on-no-day : Book → Outcome
+close-on-no-day k = does (answer.Closed 0 0) (shuts k (k .instructions .standing)) []
+
+abbrev pub close-on-a-day : Setting → Amounts → Book → Outcome
+close-on-a-day st a k =
+    does (answer.Closed (legs-done st a k) (legs-refused st a k)) (shuts k (closing-list st a k)) (rounded st a k .1)
+
 abbrev pub close-work : Setting → Amounts → Book → Outcome
-close-work st a k =
-    cond
-    (eqb (k .standing .state) on-no-day)
-    (does (answer.Closed 0 0) (shuts k (k .instructions .standing)) [])
-    (does
-     (answer.Closed (legs-done st a k) (moved-to is-leg-refused (rounded st a k .0) (closing-list st a k)))
-     (shuts k (closing-list st a k))
-     (rounded st a k .1))
+close-work st a k = cond (eqb (k .standing .state) on-no-day) (close-on-no-day k) (close-on-a-day st a k)
 
 -- a redemption clears own and customer nominal, while the ministry pays that sum
 abbrev pub redeeming : Setting → Amounts → Book → ℕ → ℕ → Movement
@@ -142,12 +145,12 @@ status-of (Some i) = answer.Status (i .fate) (i .cause)
 -- what a participant holds of an issue
 abbrev pub holding-of : Amounts → List Blocking → ℕ → ℕ → Holding
 holding-of a bs p i =
-    record
-      { own = a .nominal (place p i Own)
-      ; customer = a .nominal (place p i Customer)
-      ; «blocked_own» = blocked bs (place p i Own)
-      ; «blocked_customer» = blocked bs (place p i Customer)
-      }
+    record {
+      own = a .nominal (place p i Own);
+      customer = a .nominal (place p i Customer);
+      «blocked_own» = blocked bs (place p i Own);
+      «blocked_customer» = blocked bs (place p i Customer);
+    }
 
 -- the checks of a call
 abbrev pub checks : Setting → Amounts → Book → Call → List Check

@@ -40,11 +40,11 @@ rich = three (0 ∷ 1000000 ∷ 500000 ∷ [])
 -- participants 1 and 2 have one agent, with 49,500
 abbrev pub one-agent : Start
 one-agent =
-    record
-      { participants = 3
-      ; days = business-days
-      ; funds = record { accounts = 0 ∷ 1 ∷ 1 ∷ []; balances = 0 ∷ 49500 ∷ [] }
-      }
+    record {
+      participants = 3;
+      days = business-days;
+      funds = record { accounts = 0 ∷ 1 ∷ 1 ∷ []; balances = 0 ∷ 49500 ∷ [] };
+    }
 
 -- participant 1 takes nominal for 49,500, its own
 abbrev pub placement : ℕ → Call
@@ -64,37 +64,37 @@ next-day = Closing ∷ Opening ∷ []
 abbrev pub transfer : Sender → ℕ → Option ℕ → ℕ → Option Date → Option ℕ → Call
 transfer who nominal price value-date return-date return-price =
     Instructing
-    record
-      { sender = who
-      ; transferor = 1
-      ; «transferor_side» = Own
-      ; acquirer = 2
-      ; «acquirer_side» = Own
-      ; issue = 4
-      ; nominal = nominal
-      ; price = price
-      ; «value_date» = january value-date
-      ; «return_date» = return-date
-      ; «return_price» = return-price
-      }
+    record {
+      sender = who;
+      transferor = 1;
+      «transferor_side» = Own;
+      acquirer = 2;
+      «acquirer_side» = Own;
+      issue = 4;
+      nominal = nominal;
+      price = price;
+      «value_date» = january value-date;
+      «return_date» = return-date;
+      «return_price» = return-price;
+    }
 
 -- own to customer, inside participant 1
 abbrev pub inside : Sender → Call
 inside who =
     Instructing
-    record
-      { sender = who
-      ; transferor = 1
-      ; «transferor_side» = Own
-      ; acquirer = 1
-      ; «acquirer_side» = Customer
-      ; issue = 4
-      ; nominal = 20000
-      ; price = None
-      ; «value_date» = january 2
-      ; «return_date» = None
-      ; «return_price» = None
-      }
+    record {
+      sender = who;
+      transferor = 1;
+      «transferor_side» = Own;
+      acquirer = 1;
+      «acquirer_side» = Customer;
+      issue = 4;
+      nominal = 20000;
+      price = None;
+      «value_date» = january 2;
+      «return_date» = None;
+      «return_price» = None;
+    }
 
 -- 20,000 for 19,900 on the 2nd, and both parties' instructions for it
 abbrev pub sale : Sender → Call
@@ -129,12 +129,12 @@ pub record Sheet : Type 0 where
   pub money-equal : reply (three (0 ∷ 49500 ∷ 19900 ∷ [])) (stocked ++ sold) Round ≡ RoundMade 1
   pub money-less : reply (three (0 ∷ 49500 ∷ 19899 ∷ [])) (stocked ++ sold) Round ≡ RoundMade 0
   pub money-waits :
-    reply (three (0 ∷ 49500 ∷ 19899 ∷ [])) (stocked ++ sold ++ Round ∷ []) (AskingStatus 1) ≡ Status fate.Matched (Some MoneyShort)
+      reply (three (0 ∷ 49500 ∷ 19899 ∷ [])) (stocked ++ sold ++ Round ∷ []) (AskingStatus 1) ≡ Status fate.Matched (Some MoneyShort)
   -- free nominal equal to the leg's settles, one less waits with 19
   pub nominal-equal : reply rich (stocked ++ sold ++ pledge 30000 ∷ []) Round ≡ RoundMade 1
   pub nominal-less : reply rich (stocked ++ sold ++ pledge 30001 ∷ []) Round ≡ RoundMade 0
   pub nominal-waits :
-    reply rich (stocked ++ sold ++ pledge 30001 ∷ Round ∷ []) (AskingStatus 1) ≡ Status fate.Matched (Some NominalShort)
+      reply rich (stocked ++ sold ++ pledge 30001 ∷ Round ∷ []) (AskingStatus 1) ≡ Status fate.Matched (Some NominalShort)
   -- with one agent for both and balance 0, a priced leg settles
   pub agent-settles : reply one-agent (stocked ++ sold) Round ≡ RoundMade 1
   -- own to customer inside one participant: the transferor may send it, the acquirer may not
@@ -142,7 +142,7 @@ pub record Sheet : Type 0 where
   pub inside-acquirer : reply rich stocked (inside Acquirer) ≡ Refused InstructionShape 0
   -- a return date equal to the value date is refused
   pub return-same-day :
-    reply rich stocked (transfer Transferor 20000 (Some 19900) 2 (Some (january 2)) (Some 19950)) ≡ Refused WrongDate 0
+      reply rich stocked (transfer Transferor 20000 (Some 19900) 2 (Some (january 2)) (Some 19950)) ≡ Refused WrongDate 0
   -- of two equal transferor's instructions the lower matches the acquirer's; the other finds no partner
   pub lower-matches : reply rich two-sellers (AskingStatus 3) ≡ Status (fate.Joined 1) None
   pub lower-settles : reply rich (two-sellers ++ Closing ∷ []) (AskingStatus 1) ≡ Status fate.Settled None

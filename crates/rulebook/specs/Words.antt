@@ -126,10 +126,10 @@ pub record Amounts : Type 0 where
 -- the amounts after a movement, and after several in order
 abbrev pub after : Movement → Amounts → Amounts
 after v a =
-    record
-      { nominal = λ p. a .nominal p - takes v p + brings v p
-      ; balance = λ x. a .balance x - out-of (money v) x + into (money v) x
-      }
+    record {
+      nominal = λ p. a .nominal p - takes v p + brings v p;
+      balance = λ x. a .balance x - out-of (money v) x + into (money v) x;
+    }
 
 abbrev pub afters : List Movement → Amounts → Amounts
 afters [] a = a

@@ -1,4 +1,5 @@
 use Rattle.rulebook.proofs.Day
+use Rattle.rulebook.proofs.Week
 use Rattle.rulebook.proofs.Sheet.{sheet}
 use Rattle.rulebook.proofs.edge_cases_hold.Needs as need
 
