@@ -4,3 +4,4 @@ pub mod Rising
 pub mod Totals
 pub mod Turns
 pub mod Pairing
+pub mod Partners

@@ -183,7 +183,7 @@ came-one xs i =
 kept-joins : (n : ℕ) (i : Instruction) → alike (i .fate) fate.Kept ≡ true → joined-to n i ≡ 0
 kept-joins n i h = grind arith
 
-kept-leads : (n : ℕ) (i : Instruction) → alike (i .fate) fate.Kept ≡ true → leading n i ≡ 0
+pub kept-leads : (n : ℕ) (i : Instruction) → alike (i .fate) fate.Kept ≡ true → leading n i ≡ 0
 kept-leads n i h = grind arith
 
 -- a kept one comes with another fate, behind a list in which it may have found its partner
