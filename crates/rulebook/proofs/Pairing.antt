@@ -1,10 +1,10 @@
 -- What matching does to the sums over instructions.
 use mathlib.Core.Path.{_≡_, refl, ap, sym, subst, _∙_}
-use mathlib.Core.List.{List, [], _∷_, _++_, map}
-use mathlib.Core.Bool.{Bool, true, false, cond, not, _&&_, _||_}
+use mathlib.Core.List.{List, [], _∷_, _++_}
+use mathlib.Core.Bool.{Bool, true, false, not, _&&_}
 use Prim.Native.Nat.{ℕ, _+_, _≤_, _<_}
 use native.Mathlib.Omega.{arith}
-use lib.Dec.{eqb, leb, ltb}
+use lib.Dec.{eqb, leb}
 use Rattle.std.specs.declared.option.Option.{Option}
 use Rattle.std.specs.declared.option.Option.the-variants.{Some, None}
 use Rattle.std.specs.shelf.Lists.{All}
@@ -45,16 +45,16 @@ record Paired (o : Order) (xs : List Instruction) (r : List Instruction × Optio
 
 alone : (o : Order) (xs : List Instruction) → Paired o xs (xs, None)
 alone o xs =
-    record
-      { numbers = refl
-      ; fixed = λ g. refl
-      ; joined = λ n. refl
-      ; led = λ n. omega arith
-      ; found = λ n. omega arith
-      ; lower = λ m n a h. absurd (omega arith)
-      ; calm = λ a. a
-      ; fits = λ c a. a
-      }
+    record {
+      numbers = refl;
+      fixed = λ g. refl;
+      joined = λ n. refl;
+      led = λ n. omega arith;
+      found = λ n. omega arith;
+      lower = λ m n a h. absurd (omega arith);
+      calm = λ a. a;
+      fits = λ c a. a;
+    }
 
 same-inside : (o q : Order) → same-order o q ≡ true → is-inside o ≡ is-inside q
 same-inside o q h = grind (arith, tells)
@@ -76,16 +76,16 @@ now-leads v m b h k = grind arith
 paired-here : (o : Order) → is-inside o ≡ false → (x : Instruction) (xs : List Instruction) → is-partner o x ≡ true
     → Paired o (x ∷ xs) (turned x fate.Matched None ∷ xs, Some (x .serial))
 paired-here o p x xs e =
-    record
-      { numbers = refl
-      ; fixed = λ g. refl
-      ; joined = λ n. omega (arith, ap one-if (unmatched-joins n (x .fate) (u .0)))
-      ; led = λ n. omega (arith, now-leads (eqb (x .serial) n) (was-matched x) (is-inside (x .order)) (unmatched-before x (u .0)) inside)
-      ; found = λ n. omega (arith, ap (λ v. one-if (eqb (x .serial) n && v)) (u .1), and-one (eqb (x .serial) n))
-      ; lower = λ m n a h. omega (arith, a .0, hit-is (x .serial) n h)
-      ; calm = λ a. (λ _. refl, a .1)
-      ; fits = λ c a. (λ n h. absurd (false≢true h), a .1)
-      }
+    record {
+      numbers = refl;
+      fixed = λ g. refl;
+      joined = λ n. omega (arith, ap one-if (unmatched-joins n (x .fate) (u .0)));
+      led = λ n. omega (arith, now-leads (eqb (x .serial) n) (was-matched x) (is-inside (x .order)) (unmatched-before x (u .0)) inside);
+      found = λ n. omega (arith, ap (λ v. one-if (eqb (x .serial) n && v)) (u .1), and-one (eqb (x .serial) n));
+      lower = λ m n a h. omega (arith, a .0, hit-is (x .serial) n h);
+      calm = λ a. (λ _. refl, a .1);
+      fits = λ c a. (λ n h. absurd (false≢true h), a .1);
+    }
   where
     u : (alike (x .fate) fate.Unmatched ≡ true) × (same-order (x .order) (counter o) ≡ true)
     u = and-parts (alike (x .fate) fate.Unmatched) (same-order (x .order) (counter o)) e
@@ -99,16 +99,16 @@ paired-here o p x xs e =
 paired-behind : (o : Order) (x : Instruction) (xs : List Instruction) (r : List Instruction × Option ℕ) → Paired o xs r
     → Paired o (x ∷ xs) (x ∷ r .0, r .1)
 paired-behind o x xs r y =
-    record
-      { numbers = ap (λ l. x .serial ∷ l) (y .numbers)
-      ; fixed = λ g. omega (arith, y .fixed g)
-      ; joined = λ n. omega (arith, y .joined n)
-      ; led = λ n. omega (arith, y .led n)
-      ; found = λ n. omega (arith, y .found n)
-      ; lower = λ m n a h. y .lower m n (a .1) h
-      ; calm = λ a. (a .0, y .calm (a .1))
-      ; fits = λ c a. (a .0, y .fits c (a .1))
-      }
+    record {
+      numbers = ap (λ l. x .serial ∷ l) (y .numbers);
+      fixed = λ g. omega (arith, y .fixed g);
+      joined = λ n. omega (arith, y .joined n);
+      led = λ n. omega (arith, y .led n);
+      found = λ n. omega (arith, y .found n);
+      lower = λ m n a h. y .lower m n (a .1) h;
+      calm = λ a. (a .0, y .calm (a .1));
+      fits = λ c a. (a .0, y .fits c (a .1));
+    }
 
 paired : (o : Order) → is-inside o ≡ false → (xs : List Instruction) → Paired o xs (pair-up o xs)
 paired o p [] = alone o []
@@ -126,39 +126,39 @@ pub record Came (xs is ys : List Instruction) : Type 0 where
   pub numbers : serials ys ≡ serials xs ++ serials is
   pub fixed : (g : Fixed) → total (weigh g) ys ≡ total (weigh g) xs + total (weigh g) is
   pub led : (n : ℕ) → total (joined-to n) ys + (total (leading n) xs + total (leading n) is)
-    ≡ (total (joined-to n) xs + total (joined-to n) is) + total (leading n) ys
+      ≡ (total (joined-to n) xs + total (joined-to n) is) + total (leading n) ys
   pub calm : All Calm xs → All Calm is → All Calm ys
   pub fits : (c : ℕ → Order → ℕ) (low high : ℕ)
-    → ((n : ℕ) (o : Order) → total (weigh (answering n o)) xs + total (weigh (answering n o)) is ≤ c n o)
-    → All (λ s. s ≤ low) (serials xs) → Between low high (serials is)
-    → All (Fits c) xs → All (Fits c) is → All (Fits c) ys
+      → ((n : ℕ) (o : Order) → total (weigh (answering n o)) xs + total (weigh (answering n o)) is ≤ c n o)
+      → All (λ s. s ≤ low) (serials xs) → Between low high (serials is)
+      → All (Fits c) xs → All (Fits c) is → All (Fits c) ys
 
 came-none : (xs : List Instruction) → Came xs [] xs
 came-none xs =
-    record
-      { numbers = sym (append-nil (serials xs))
-      ; fixed = λ g. omega arith
-      ; led = λ n. omega arith
-      ; calm = λ a _. a
-      ; fits = λ c low high _ _ _ a _. a
-      }
+    record {
+      numbers = sym (append-nil (serials xs));
+      fixed = λ g. omega arith;
+      led = λ n. omega arith;
+      calm = λ a _. a;
+      fits = λ c low high _ _ _ a _. a;
+    }
 
 came-more : (xs : List Instruction) (i : Instruction) (is ys zs : List Instruction)
     → Came xs (i ∷ []) ys → Came ys is zs → Came xs (i ∷ is) zs
 came-more xs i is ys zs a b =
-    record
-      { numbers = b .numbers ∙ (ap (λ l. l ++ serials is) (a .numbers) ∙ append-assoc (serials xs) (i .serial ∷ []) (serials is))
-      ; fixed = λ g. omega (arith, a .fixed g, b .fixed g)
-      ; led = λ n. omega (arith, a .led n, b .led n)
-      ; calm = λ h k. b .calm (a .calm h (k .0, tt)) (k .1)
-      ; fits = λ c low high l h w u v.
+    record {
+      numbers = b .numbers ∙ (ap (λ l. l ++ serials is) (a .numbers) ∙ append-assoc (serials xs) (i .serial ∷ []) (serials is));
+      fixed = λ g. omega (arith, a .fixed g, b .fixed g);
+      led = λ n. omega (arith, a .led n, b .led n);
+      calm = λ h k. b .calm (a .calm h (k .0, tt)) (k .1);
+      fits = λ c low high l h w u v.
           b .fits c (i .serial) high
           (λ n o. omega (arith, l n o, a .fixed (answering n o)))
           (up-to low h (w .0))
           (w .1)
           (a .fits c low (i .serial + 1) (λ n o. omega (arith, l n o)) h (w .0, omega arith) u (v .0, tt))
-          (v .1)
-      }
+          (v .1);
+    }
   where
     up-to : (low : ℕ) → All (λ s. s ≤ low) (serials xs) → low < i .serial → All (λ s. s ≤ i .serial) (serials ys)
     up-to low h l =
@@ -166,19 +166,19 @@ came-more xs i is ys zs a b =
         (All (λ s. s ≤ i .serial))
         (sym (a .numbers))
         (all-push (λ s. s ≤ i .serial) (serials xs) (i .serial)
-          (all-weaker (λ s. s ≤ low) (λ s. s ≤ i .serial) (λ s e. omega arith) (serials xs) h)
-          (omega arith))
+        (all-weaker (λ s. s ≤ low) (λ s. s ≤ i .serial) (λ s e. omega arith) (serials xs) h)
+        (omega arith))
 
 -- an instruction comes as it is
 came-one : (xs : List Instruction) (i : Instruction) → Came xs (i ∷ []) (xs ++ i ∷ [])
 came-one xs i =
-    record
-      { numbers = map-push (λ (x : Instruction). x .serial) xs i
-      ; fixed = λ g. omega (arith, total-push (weigh g) xs i)
-      ; led = λ n. omega (arith, total-push (joined-to n) xs i, total-push (leading n) xs i)
-      ; calm = λ a k. all-push Calm xs i a (k .0)
-      ; fits = λ c low high _ _ _ a k. all-push (Fits c) xs i a (k .0)
-      }
+    record {
+      numbers = map-push (λ (x : Instruction). x .serial) xs i;
+      fixed = λ g. omega (arith, total-push (weigh g) xs i);
+      led = λ n. omega (arith, total-push (joined-to n) xs i, total-push (leading n) xs i);
+      calm = λ a k. all-push Calm xs i a (k .0);
+      fits = λ c low high _ _ _ a k. all-push (Fits c) xs i a (k .0);
+    }
 
 kept-joins : (n : ℕ) (i : Instruction) → alike (i .fate) fate.Kept ≡ true → joined-to n i ≡ 0
 kept-joins n i h = grind arith
@@ -191,16 +191,17 @@ came-turned : (xs ys : List Instruction) (r : Option ℕ) (i : Instruction) (f :
     → Paired (i .order) xs (ys, r) → ((n : ℕ) → one-if (joins n f) ≡ hit r n) → ((n : ℕ) → leading n (turned i f None) ≡ 0)
     → Came xs (i ∷ []) (ys ++ turned i f None ∷ [])
 came-turned xs ys r i f k p js ls =
-    record
-      { numbers = map-push (λ (x : Instruction). x .serial) ys new ∙ ap (λ l. l ++ i .serial ∷ []) (p .numbers)
-      ; fixed = λ g. omega (arith, total-push (weigh g) ys new, p .fixed g)
-      ; led = λ n. omega (arith, total-push (joined-to n) ys new, total-push (leading n) ys new, p .joined n, p .led n, js n, ls n, kept-joins n i k, kept-leads n i k)
-      ; calm = λ a _. all-push Calm ys new (p .calm a) (λ _. refl)
-      ; fits = λ c low high l h w a _. all-push (Fits c) ys new (p .fits c a) (λ n e.
-          let one : 1 ≤ hit r n = omega (arith, js n, ap one-if e) in
-          ( p .lower (i .serial) n (all-weaker (λ s. s ≤ low) (λ s. s < i .serial) (λ s e. omega (arith, w .0)) (serials xs) h) one
-          , omega (arith, one, p .found n, l n (i .order)) ))
-      }
+    record {
+      numbers = map-push (λ (x : Instruction). x .serial) ys new ∙ ap (λ l. l ++ i .serial ∷ []) (p .numbers);
+      fixed = λ g. omega (arith, total-push (weigh g) ys new, p .fixed g);
+      led = λ n. omega (arith, total-push (joined-to n) ys new, total-push (leading n) ys new, p .joined n, p .led n, js n, ls n, kept-joins n i k, kept-leads n i k);
+      calm = λ a _. all-push Calm ys new (p .calm a) (λ _. refl);
+      fits = λ c low high l h w a _. all-push (Fits c) ys new (p .fits c a) (λ n e.
+          let one : 1 ≤ hit r n = omega (arith, js n, ap one-if e) in (
+            p .lower (i .serial) n (all-weaker (λ s. s ≤ low) (λ s. s < i .serial) (λ s e. omega (arith, w .0)) (serials xs) h) one,
+            omega (arith, one, p .found n, l n (i .order)),
+          ));
+    }
   where
     new : Instruction
     new = turned i f None
@@ -216,13 +217,13 @@ arrived d xs i k =
     (xs ++ turned i fate.Kept None ∷ [])
     (Came xs (i ∷ []))
     (λ _. cond-both
-      (is-inside (i .order))
-      (xs ++ turned i fate.Matched None ∷ [])
-      (pair-up (i .order) xs .0 ++ met i (pair-up (i .order) xs .1) ∷ [])
-      (Came xs (i ∷ []))
-      (λ e. came-turned xs xs None i fate.Matched k (alone (i .order) xs) (λ n. refl)
-        (λ n. ap (λ v. one-if (eqb (i .serial) n && not v)) e ∙ and-nothing (eqb (i .serial) n)))
-      (λ e. sought (pair-up (i .order) xs .0) (pair-up (i .order) xs .1) (paired (i .order) e xs)))
+    (is-inside (i .order))
+    (xs ++ turned i fate.Matched None ∷ [])
+    (pair-up (i .order) xs .0 ++ met i (pair-up (i .order) xs .1) ∷ [])
+    (Came xs (i ∷ []))
+    (λ e. came-turned xs xs None i fate.Matched k (alone (i .order) xs) (λ n. refl)
+    (λ n. ap (λ v. one-if (eqb (i .serial) n && not v)) e ∙ and-nothing (eqb (i .serial) n)))
+    (λ e. sought (pair-up (i .order) xs .0) (pair-up (i .order) xs .1) (paired (i .order) e xs)))
     (λ _. came-turned xs xs None i fate.Kept k (alone (i .order) xs) (λ n. refl) (λ n. and-nothing (eqb (i .serial) n)))
   where
     sought : (ys : List Instruction) (r : Option ℕ) → Paired (i .order) xs (ys, r) → Came xs (i ∷ []) (ys ++ met i r ∷ [])

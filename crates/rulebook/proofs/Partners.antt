@@ -1,11 +1,10 @@
 -- Over every list of calls: each joined instruction's partner, and the one joined to each that was matched.
 use mathlib.Core.Path.{_≡_, refl, ap, sym, subst, _∙_}
-use mathlib.Core.List.{List, [], _∷_, _++_, map}
-use mathlib.Core.Bool.{Bool, true, false, cond, not, _&&_, _||_}
+use mathlib.Core.List.{List, [], _∷_, _++_}
+use mathlib.Core.Bool.{Bool, true, false, cond, not, _&&_}
 use Prim.Native.Nat.{ℕ, _+_, _-_, _≤_, _<_}
 use native.Mathlib.Omega.{arith}
-use lib.Dec.{eqb, leb, ltb}
-use Rattle.std.specs.declared.option.Option.the-variants.{Some, None}
+use lib.Dec.{eqb, ltb}
 use Rattle.std.specs.declared.result.Result.{Result}
 use Rattle.std.specs.declared.result.Result.the-variants.{Ok, Err}
 use Rattle.std.specs.shelf.Lists.{All, Each}
@@ -24,40 +23,43 @@ use Rattle.rulebook.specs.States.{on-no-day, opened}
 use Rattle.rulebook.specs.Words.{one-if, total, Amounts, Instruction, Setting, Book, Start}
 use Rattle.rulebook.specs.Checks.{verdict, today, is-shut, is-inside, has-serial}
 use Rattle.rulebook.specs.Matching.{joins, same-order, counter, arrive, wake-all, leaves, leavers, stayers, cancelled-in}
-use Rattle.rulebook.specs.Rounds.{is-leg-refused, moved-to, ended-all}
-use Rattle.rulebook.specs.Rules.{Outcome, refuses, does, opens, opening-day, incoming, with-order, rounded, legs-done, closing-list, shuts, close-work, checks, work, ruled, rule, book-by}
-use Rattle.rulebook.specs.Journal.{reads, new-past, setting-of, Past, accepted, leaving, step, history-from, history}
+use Rattle.rulebook.specs.Rounds.{is-leg-refused, moved-to}
+use Rattle.rulebook.specs.Rules.{Outcome, does, incoming, with-order, rounded, legs-done, closing-list, shuts, close-work, checks, work, ruled, rule, book-by}
+use Rattle.rulebook.specs.Journal.{reads, new-past, setting-of, Past, accepted, step, history-from, history}
 use Rattle.rulebook.specs.Laws.{Sensible, with-serial, was-matched}
 use Rattle.rulebook.proofs.Totals.{total-append, total-split, member-le, all-passing}
 use Rattle.rulebook.proofs.Turns.{weigh, named, answering, joined-to, leads, leading, serials, Calm, Fits, Turn, round-turns, end-turns, cancel-turns, turned-serials, turned-fixed, turned-joined, turned-led, turned-calm, turned-fits}
 use Rattle.rulebook.proofs.Pairing.{Between, Came, kept-leads, arrived, all-woken}
 
 -- over those on the list and those that left it
-abbrev over : List Instruction → List Instruction → (Instruction → ℕ) → ℕ
+abbrev pub over : List Instruction → List Instruction → (Instruction → ℕ) → ℕ
 over is gone f = total f is + total f gone
 
 -- how many of them have that serial and answer that order
-abbrev answered : List Instruction → List Instruction → ℕ → Order → ℕ
+abbrev pub answered : List Instruction → List Instruction → ℕ → Order → ℕ
 answered is gone n o = over is gone (weigh (answering n o))
 
 -- each serial given stands once, serials rise on the list, each that leads has one joined to it, each joined one its partner
-record Kin (is gone : List Instruction) (next : ℕ) : Type 0 where
-  known : (n : ℕ) → over is gone (weigh (named n)) ≡ one-if (ltb 0 n && ltb n next)
-  rising : Between 0 next (serials is)
-  led : (n : ℕ) → over is gone (joined-to n) ≡ over is gone (leading n)
-  calm : All Calm is
-  fits : All (Fits (answered is gone)) is
-  fits-gone : All (Fits (answered is gone)) gone
+pub record Kin (is gone : List Instruction) (next : ℕ) : Type 0 where
+  pub known : (n : ℕ) → over is gone (weigh (named n)) ≡ one-if (ltb 0 n && ltb n next)
+  pub rising : Between 0 next (serials is)
+  pub led : (n : ℕ) → over is gone (joined-to n) ≡ over is gone (leading n)
+  pub calm : All Calm is
+  pub fits : All (Fits (answered is gone)) is
+  pub fits-gone : All (Fits (answered is gone)) gone
 
-abbrev Akin : Past → Type 0
-Akin h = Kin (h .book .instructions .standing) (h .departed) (h .book .instructions .next)
-
-abbrev Akin-of : List Instruction → Book → Type 0
+-- of a book and those that left its list, and of a past
+abbrev pub Akin-of : List Instruction → Book → Type 0
 Akin-of gone k = Kin (k .instructions .standing) gone (k .instructions .next)
 
+abbrev pub Akin : Past → Type 0
+Akin h = Akin-of (h .departed) (h .book)
+
+-- what fits one count fits a larger one
 fits-more : (c c′ : ℕ → Order → ℕ) → ((n : ℕ) (o : Order) → c n o ≤ c′ n o) → (is : List Instruction) → All (Fits c) is → All (Fits c′) is
 fits-more c c′ l = all-weaker (Fits c) (Fits c′) (λ i h n e. (h n e .0, omega (arith, h n e .1, l n (i .order))))
 
+-- rising numbers: fewer, or one more at the end
 between-wider : (low low′ high : ℕ) (ns : List ℕ) → low′ ≤ low → Between low high ns → Between low′ high ns
 between-wider low low′ high [] l b = omega arith
 between-wider low low′ high (n ∷ ns) l b = (omega (arith, b .0), b .1)
@@ -86,14 +88,14 @@ between-all low high (n ∷ ns) b = (between-below n high ns (b .1), between-all
 -- fates turn
 turned-kin : (is js gone : List Instruction) (next : ℕ) → Each Turn is js → Kin is gone next → Kin js gone next
 turned-kin is js gone next t h =
-    record
-      { known = λ n. omega (arith, h .known n, turned-fixed (named n) is js (h .calm) t)
-      ; rising = subst (Between 0 next) (sym (turned-serials is js t)) (h .rising)
-      ; led = λ n. omega (arith, h .led n, turned-joined n is js (h .calm) t, turned-led n is js (h .calm) t)
-      ; calm = turned-calm is js (h .calm) t
-      ; fits = turned-fits (answered is gone) (answered js gone) more is js (h .calm) t (h .fits)
-      ; fits-gone = fits-more (answered is gone) (answered js gone) more gone (h .fits-gone)
-      }
+    record {
+      known = λ n. omega (arith, h .known n, turned-fixed (named n) is js (h .calm) t);
+      rising = subst (Between 0 next) (sym (turned-serials is js t)) (h .rising);
+      led = λ n. omega (arith, h .led n, turned-joined n is js (h .calm) t, turned-led n is js (h .calm) t);
+      calm = turned-calm is js (h .calm) t;
+      fits = turned-fits (answered is gone) (answered js gone) more is js (h .calm) t (h .fits);
+      fits-gone = fits-more (answered is gone) (answered js gone) more gone (h .fits-gone);
+    }
   where
     more : (n : ℕ) (o : Order) → answered is gone n o ≤ answered js gone n o
     more n o = omega (arith, turned-fixed (answering n o) is js (h .calm) t)
@@ -105,20 +107,20 @@ next-known n next x y p e h = grind (arith, tells)
 
 arrived-kin : (k : Book) (gone : List Instruction) (o : Order) → Akin-of gone k → Akin-of gone (with-order k o)
 arrived-kin k gone o h =
-    record
-      { known = λ n. next-known n next (over is gone (weigh (named n))) (over js gone (weigh (named n)))
-          some (omega (arith, c .fixed (named n))) (h .known n)
-      ; rising = subst (Between 0 (next + 1)) (sym (c .numbers)) (between-push 0 next (serials is) (h .rising))
-      ; led = λ n. omega (arith, h .led n, c .led n, kept-leads n i refl)
-      ; calm = c .calm (h .calm) (λ _. refl, tt)
-      ; fits = c .fits (answered js gone) (next - 1) (next + 1)
+    record {
+      known = λ n. next-known n next (over is gone (weigh (named n))) (over js gone (weigh (named n)))
+          some (omega (arith, c .fixed (named n))) (h .known n);
+      rising = subst (Between 0 (next + 1)) (sym (c .numbers)) (between-push 0 next (serials is) (h .rising));
+      led = λ n. omega (arith, h .led n, c .led n, kept-leads n i refl);
+      calm = c .calm (h .calm) (λ _. refl, tt);
+      fits = c .fits (answered js gone) (next - 1) (next + 1)
           (λ n q. omega (arith, c .fixed (answering n q)))
           (all-weaker (λ s. s < next) (λ s. s ≤ next - 1) (λ s l. omega arith) (serials is) (between-all 0 next (serials is) (h .rising)))
           (omega (arith, some), omega arith)
           (fits-more (answered is gone) (answered js gone) more is (h .fits))
-          (λ n e. absurd (false≢true e), tt)
-      ; fits-gone = fits-more (answered is gone) (answered js gone) more gone (h .fits-gone)
-      }
+          (λ n e. absurd (false≢true e), tt);
+      fits-gone = fits-more (answered is gone) (answered js gone) more gone (h .fits-gone);
+    }
   where
     next : ℕ
     next = k .instructions .next
@@ -145,21 +147,21 @@ arrived-kin k gone o h =
 opened-kin : (d : ℕ) (is gone : List Instruction) (next : ℕ) → Kin is gone next
     → Kin (wake-all d [] (stayers is)) (leavers is ++ gone) next
 opened-kin d is gone next h =
-    record
-      { known = λ n. omega (arith, h .known n, c .fixed (named n), parts (weigh (named n)))
-      ; rising = subst (Between 0 next) (sym (c .numbers)) (between-passing 0 next stays is (h .rising))
-      ; led = λ n. omega (arith, h .led n, c .led n, parts (joined-to n), parts (leading n))
-      ; calm = c .calm tt (all-passing Calm stays is (h .calm))
-      ; fits = c .fits (answered js left) 0 next
+    record {
+      known = λ n. omega (arith, h .known n, c .fixed (named n), parts (weigh (named n)));
+      rising = subst (Between 0 next) (sym (c .numbers)) (between-passing 0 next stays is (h .rising));
+      led = λ n. omega (arith, h .led n, c .led n, parts (joined-to n), parts (leading n));
+      calm = c .calm tt (all-passing Calm stays is (h .calm));
+      fits = c .fits (answered js left) 0 next
           (λ n o. omega (arith, c .fixed (answering n o)))
           tt
           (between-passing 0 next stays is (h .rising))
           tt
-          (all-passing (Fits (answered js left)) stays is fits-now)
-      ; fits-gone = all-append (Fits (answered js left)) (leavers is) gone
+          (all-passing (Fits (answered js left)) stays is fits-now);
+      fits-gone = all-append (Fits (answered js left)) (leavers is) gone
           (all-passing (Fits (answered js left)) (leaves is) is fits-now)
-          (fits-more (answered is gone) (answered js left) more gone (h .fits-gone))
-      }
+          (fits-more (answered is gone) (answered js left) more gone (h .fits-gone));
+    }
   where
     stays : Instruction → Bool
     stays i = not (leaves is i)
@@ -208,9 +210,9 @@ module _ (s : Start) (h : Past) (a : Akin h) where
 
   opening : (b : Bool)
       → Kin
-        (book-by k (ruled (cond b (Ok tt) (Err WrongState)) (work st am k call.Opening)) .instructions .standing)
-        (cond b (leavers is) [] ++ h .departed)
-        (book-by k (ruled (cond b (Ok tt) (Err WrongState)) (work st am k call.Opening)) .instructions .next)
+      (book-by k (ruled (cond b (Ok tt) (Err WrongState)) (work st am k call.Opening)) .instructions .standing)
+      (cond b (leavers is) [] ++ h .departed)
+      (book-by k (ruled (cond b (Ok tt) (Err WrongState)) (work st am k call.Opening)) .instructions .next)
   opening true = opened-kin (opened (st .days) (k .standing) .day) is (h .departed) next a
   opening false = a
 
@@ -223,9 +225,9 @@ module _ (s : Start) (h : Past) (a : Akin h) where
       (eqb (k .standing .state) on-no-day)
       (does (answer.Closed 0 0) (shuts k is) [])
       (does
-       (answer.Closed (legs-done st am k) (moved-to is-leg-refused (rounded st am k .0) (closing-list st am k)))
-       (shuts k (closing-list st am k))
-       (rounded st am k .1))
+      (answer.Closed (legs-done st am k) (moved-to is-leg-refused (rounded st am k .0) (closing-list st am k)))
+      (shuts k (closing-list st am k))
+      (rounded st am k .1))
       (λ o. Akin-of (h .departed) (book-by k o))
       (λ _. a)
       (λ _. turned-kin (rounded st am k .0) (closing-list st am k) (h .departed) next (end-turns (today k) (rounded st am k .0)) round-kin)
@@ -251,16 +253,16 @@ history-kin s h (c ∷ cs) a = history-kin s (step s h c) cs (step-kin s h a c)
 
 new-kin : Akin new-past
 new-kin =
-    record
-      { known = λ n. grind (arith, tells)
-      ; rising = omega arith
-      ; led = λ n. refl
-      ; calm = tt
-      ; fits = tt
-      ; fits-gone = tt
-      }
+    record {
+      known = λ n. grind (arith, tells);
+      rising = omega arith;
+      led = λ n. refl;
+      calm = tt;
+      fits = tt;
+      fits-gone = tt;
+    }
 
-kin : (s : Start) (cs : List Call) → Akin (history s cs)
+pub kin : (s : Start) (cs : List Call) → Akin (history s cs)
 kin s cs = history-kin s new-past cs new-kin
 
 -- where a serial stands once at most, a test of those that have it is the test of the one
@@ -288,12 +290,12 @@ by-serial t is once =
     (λ i. (f : Instruction → ℕ) → f i ≤ total f is)
     (λ i. total (has-and t (i .serial)) is ≡ one-if (t i))
     (λ i m. only-one (has-serial (i .serial) i) (t i)
-      (total (has-and t (i .serial)) is)
-      (total (has-and (λ x. not (t x)) (i .serial)) is)
-      (eq-eqb (i .serial) (i .serial) refl)
-      (m (has-and t (i .serial)))
-      (m (has-and (λ x. not (t x)) (i .serial)))
-      (omega (arith, has-split t (i .serial) is, once (i .serial))))
+    (total (has-and t (i .serial)) is)
+    (total (has-and (λ x. not (t x)) (i .serial)) is)
+    (eq-eqb (i .serial) (i .serial) refl)
+    (m (has-and t (i .serial)))
+    (m (has-and (λ x. not (t x)) (i .serial)))
+    (omega (arith, has-split t (i .serial) is, once (i .serial))))
     is
     (member-le is)
 
@@ -302,28 +304,30 @@ one-if-le b = grind arith
 
 once : (h : Past) → Akin h → (n : ℕ) → total (weigh (named n)) (accepted h) ≤ 1
 once h a n =
-    omega
-    ( arith
-    , total-append (weigh (named n)) (h .book .instructions .standing) (h .departed)
-    , a .known n
-    , one-if-le (ltb 0 n && ltb n (h .book .instructions .next)) )
+    omega (
+      arith,
+      total-append (weigh (named n)) (h .book .instructions .standing) (h .departed),
+      a .known n,
+      one-if-le (ltb 0 n && ltb n (h .book .instructions .next)),
+    )
 
 -- one that was matched has exactly one joined to it, inside one participant none; no other has any
 pub joined-once-holds : (s : Start) → Sensible s → (cs : List Call)
     → All
-      (λ i. total (λ x. one-if (joins (i .serial) (x .fate))) (accepted (history s cs))
-        ≡ one-if (was-matched i && not (is-inside (i .order))))
-      (accepted (history s cs))
+    (λ i. total (λ x. one-if (joins (i .serial) (x .fate))) (accepted (history s cs))
+    ≡ one-if (was-matched i && not (is-inside (i .order))))
+    (accepted (history s cs))
 joined-once-holds s _ cs =
     all-weaker
     (λ i. total (has-and leads (i .serial)) (accepted h) ≡ one-if (leads i))
     (λ i. total (joined-to (i .serial)) (accepted h) ≡ one-if (leads i))
-    (λ i e. omega
-      ( arith
-      , e
-      , a .led (i .serial)
-      , total-append (joined-to (i .serial)) (h .book .instructions .standing) (h .departed)
-      , total-append (leading (i .serial)) (h .book .instructions .standing) (h .departed) ))
+    (λ i e. omega (
+      arith,
+      e,
+      a .led (i .serial),
+      total-append (joined-to (i .serial)) (h .book .instructions .standing) (h .departed),
+      total-append (leading (i .serial)) (h .book .instructions .standing) (h .departed),
+    ))
     (accepted h)
     (by-serial leads (accepted h) (once h a))
   where
@@ -336,25 +340,27 @@ joined-once-holds s _ cs =
 -- a joined instruction's partner has a lower serial, and the same order but for the sender
 pub partner-holds : (s : Start) → Sensible s → (cs : List Call)
     → All
-      (λ i. (n : ℕ) → i .fate ≡ fate.Joined n
-        → (n < i .serial)
-          × (total (λ x. one-if (has-serial n x && same-order (x .order) (counter (i .order)))) (accepted (history s cs)) ≡ 1))
-      (accepted (history s cs))
+    (λ i. (n : ℕ) → i .fate ≡ fate.Joined n
+    → (n < i .serial)
+    × (total (λ x. one-if (has-serial n x && same-order (x .order) (counter (i .order)))) (accepted (history s cs)) ≡ 1))
+    (accepted (history s cs))
 partner-holds s _ cs =
     all-weaker
     (Fits (answered is gone))
     (λ i. (n : ℕ) → i .fate ≡ fate.Joined n
-      → (n < i .serial) × (total (λ x. one-if (has-serial n x && same-order (x .order) (counter (i .order)))) (is ++ gone) ≡ 1))
+    → (n < i .serial) × (total (λ x. one-if (has-serial n x && same-order (x .order) (counter (i .order)))) (is ++ gone) ≡ 1))
     (λ i f n e.
-      let w = f n (ap (joins n) e ∙ eq-eqb n n refl) in
-      let t : Instruction → Bool = λ x. same-order (x .order) (counter (i .order)) in
-      ( w .0
-      , omega
-        ( arith
-        , w .1
-        , total-append (has-and t n) is gone
-        , has-split t n (is ++ gone)
-        , once (history s cs) (kin s cs) n ) ))
+    let w = f n (ap (joins n) e ∙ eq-eqb n n refl) in
+    let t : Instruction → Bool = λ x. same-order (x .order) (counter (i .order)) in (
+      w .0,
+      omega (
+        arith,
+        w .1,
+        total-append (has-and t n) is gone,
+        has-split t n (is ++ gone),
+        once (history s cs) (kin s cs) n,
+      ),
+    ))
     (is ++ gone)
     (all-append (Fits (answered is gone)) is gone (kin s cs .fits) (kin s cs .fits-gone))
   where

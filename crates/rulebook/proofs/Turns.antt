@@ -1,15 +1,14 @@
 -- Which instructions belong together: what is counted, and what a change of fates leaves of it.
-use mathlib.Core.Path.{_≡_, refl, ap, sym, subst, _∙_}
-use mathlib.Core.List.{List, [], _∷_, _++_, map}
+use mathlib.Core.Path.{_≡_, refl, sym, subst, _∙_}
+use mathlib.Core.List.{List, [], _∷_, map}
 use mathlib.Core.Bool.{Bool, true, false, cond, not, _&&_, _||_}
-use Prim.Native.Nat.{ℕ, _+_, _≤_, _<_}
+use Prim.Native.Nat.{ℕ, _≤_, _<_}
 use native.Mathlib.Omega.{arith}
-use lib.Dec.{eqb, leb, ltb}
+use lib.Dec.{eqb, leb}
 use Rattle.std.specs.declared.option.Option.{Option}
 use Rattle.std.specs.declared.option.Option.the-variants.{Some, None}
 use Rattle.std.specs.shelf.Lists.{All, Each}
 use Rattle.std.proofs.shelf.Tests.{cond-both, both-ways, and-parts, or-left, or-right}
-use Rattle.std.proofs.shelf.Ways.{tells}
 use Rattle.refusals.specs.declared.Refusal.{Refusal}
 use Rattle.refusals.specs.declared.Refusal.the-variants.{NominalShort, MoneyShort, NoPartner}
 use Rattle.refusals.specs.Table.{number}
@@ -85,13 +84,13 @@ turn-on : (i : Instruction) (f : Fate) (c : Option Refusal) → in-turn (i .fate
     → ((n : ℕ) → joins n f ≡ false) → was-matched (turned i f c) ≡ true → (Calm i → Calm (turned i f c))
     → Turn i (turned i f c)
 turn-on i f c h js m k =
-    record
-      { serial = refl
-      ; order = refl
-      ; joined = λ n. js n ∙ sym (in-turn-joins n (i .fate) h)
-      ; matched = λ _. m ∙ sym (in-turn-matched i h)
-      ; calm = k
-      }
+    record {
+      serial = refl;
+      order = refl;
+      joined = λ n. js n ∙ sym (in-turn-joins n (i .fate) h);
+      matched = λ _. m ∙ sym (in-turn-matched i h);
+      calm = k;
+    }
 
 -- a try touches only a leg that is due, and it never waits for want of a partner
 abbrev Proper : Instruction → Try → Type 0
@@ -119,14 +118,14 @@ proper st d bs a i =
     (λ (e : Option Leg). Proper i (try-leg st a bs (i .order) e))
     (λ h. proper-leg st a bs i first (or-left (alike (i .fate) fate.Matched) (alike (i .fate) fate.RepoOut) h))
     (λ _. cond-both
-      (alike (i .fate) fate.RepoOut && is-day d (i .order .«return_date»))
-      (Some return)
-      None
-      (λ (e : Option Leg). Proper i (try-leg st a bs (i .order) e))
-      (λ h. proper-leg st a bs i return
-        (or-right (alike (i .fate) fate.Matched) (alike (i .fate) fate.RepoOut)
-          (and-parts (alike (i .fate) fate.RepoOut) (is-day d (i .order .«return_date»)) h .0)))
-      (λ _. tt))
+    (alike (i .fate) fate.RepoOut && is-day d (i .order .«return_date»))
+    (Some return)
+    None
+    (λ (e : Option Leg). Proper i (try-leg st a bs (i .order) e))
+    (λ h. proper-leg st a bs i return
+    (or-right (alike (i .fate) fate.Matched) (alike (i .fate) fate.RepoOut)
+    (and-parts (alike (i .fate) fate.RepoOut) (is-day d (i .order .«return_date»)) h .0)))
+    (λ _. tt))
 
 turn-settled : (i : Instruction) (e : Leg) (d : Option Date) → in-turn (i .fate) ≡ true → Turn i (settled-one i e d)
 turn-settled i first None h = turn-on i fate.Settled (i .cause) h (λ n. refl) refl (λ _ e. grind arith)
@@ -143,9 +142,10 @@ turn-tried i (settles e) h = turn-settled i e (i .order .«return_date») h
 pub round-turns : (st : Setting) (d : ℕ) (bs : List Blocking) (is : List Instruction) (a : Amounts)
     → Each Turn is (rounds st d bs is a .0)
 round-turns st d bs [] a = tt
-round-turns st d bs (i ∷ is) a =
-    ( turn-tried i (try st d bs a i) (proper st d bs a i)
-    , round-turns st d bs is (afters (try-moves st d i (try st d bs a i)) a) )
+round-turns st d bs (i ∷ is) a = (
+  turn-tried i (try st d bs a i) (proper st d bs a i),
+  round-turns st d bs is (afters (try-moves st d i (try st d bs a i)) a),
+)
 
 map-turns : (f : Instruction → Instruction) → ((i : Instruction) → Turn i (f i)) → (is : List Instruction) → Each Turn is (map f is)
 map-turns f h [] = tt
@@ -163,24 +163,24 @@ turn-ended d i =
     (alike (i .fate) fate.Unmatched)
     (turned i fate.Refused (Some NoPartner))
     (cond
-     (alike (i .fate) fate.Matched)
-     (turned i fate.Refused (i .cause))
-     (cond (alike (i .fate) fate.RepoOut && is-day d (i .order .«return_date»)) (turned i fate.ReturnRefused (i .cause)) i))
+    (alike (i .fate) fate.Matched)
+    (turned i fate.Refused (i .cause))
+    (cond (alike (i .fate) fate.RepoOut && is-day d (i .order .«return_date»)) (turned i fate.ReturnRefused (i .cause)) i))
     (Turn i)
     (λ e. turn-refused i fate.Refused (Some NoPartner) (λ n. grind arith) (λ _. grind arith) refl)
     (λ _. cond-both
-      (alike (i .fate) fate.Matched)
-      (turned i fate.Refused (i .cause))
-      (cond (alike (i .fate) fate.RepoOut && is-day d (i .order .«return_date»)) (turned i fate.ReturnRefused (i .cause)) i)
-      (Turn i)
-      (λ e. turn-refused i fate.Refused (i .cause) (λ n. grind arith) (λ k. let w = k e in grind arith) refl)
-      (λ _. cond-both
-        (alike (i .fate) fate.RepoOut && is-day d (i .order .«return_date»))
-        (turned i fate.ReturnRefused (i .cause))
-        i
-        (Turn i)
-        (λ e. turn-refused i fate.ReturnRefused (i .cause) (λ n. grind arith) (λ _. grind arith) refl)
-        (λ _. turn-none i)))
+    (alike (i .fate) fate.Matched)
+    (turned i fate.Refused (i .cause))
+    (cond (alike (i .fate) fate.RepoOut && is-day d (i .order .«return_date»)) (turned i fate.ReturnRefused (i .cause)) i)
+    (Turn i)
+    (λ e. turn-refused i fate.Refused (i .cause) (λ n. grind arith) (λ k. let w = k e in grind arith) refl)
+    (λ _. cond-both
+    (alike (i .fate) fate.RepoOut && is-day d (i .order .«return_date»))
+    (turned i fate.ReturnRefused (i .cause))
+    i
+    (Turn i)
+    (λ e. turn-refused i fate.ReturnRefused (i .cause) (λ n. grind arith) (λ _. grind arith) refl)
+    (λ _. turn-none i)))
 
 pub end-turns : (d : ℕ) (is : List Instruction) → Each Turn is (ended-all d is)
 end-turns d is = map-turns (ended d) (turn-ended d) is
@@ -193,7 +193,7 @@ turn-cancelled p n i =
     i
     (Turn i)
     (λ e. let w : (alike (i .fate) fate.Kept || alike (i .fate) fate.Unmatched) ≡ true = and-parts _ (alike (i .fate) fate.Kept || alike (i .fate) fate.Unmatched) e .1 in
-      turn-refused i fate.Cancelled (i .cause) (λ m. grind arith) (λ _. grind arith) refl)
+    turn-refused i fate.Cancelled (i .cause) (λ m. grind arith) (λ _. grind arith) refl)
     (λ _. turn-none i)
 
 pub cancel-turns : (p n : ℕ) (is : List Instruction) → Each Turn is (cancelled-in p n is)
@@ -237,6 +237,6 @@ pub turned-fits : (c c′ : ℕ → Order → ℕ) → ((n : ℕ) (o : Order) �
     → (is js : List Instruction) → All Calm is → Each Turn is js → All (Fits c) is → All (Fits c′) js
 turned-fits c c′ l =
     turned-all (Fits c) (Fits c′) (λ i j _ t h n e.
-      let w = h n (sym (t .joined n) ∙ e) in
-      let q : c n (i .order) ≤ c′ n (j .order) = subst (λ o. c n (i .order) ≤ c′ n o) (sym (t .order)) (l n (i .order)) in
-      (omega (arith, w .0, t .serial), omega (arith, w .1, q)))
+    let w = h n (sym (t .joined n) ∙ e) in
+    let q : c n (i .order) ≤ c′ n (j .order) = subst (λ o. c n (i .order) ≤ c′ n o) (sym (t .order)) (l n (i .order)) in
+    (omega (arith, w .0, t .serial), omega (arith, w .1, q)))
