@@ -5,3 +5,6 @@ pub mod Totals
 pub mod Answering
 pub mod Covered
 pub mod Agreement
+pub mod Working
+pub mod Ordered
+pub mod Quantities
