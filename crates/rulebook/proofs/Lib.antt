@@ -6,3 +6,9 @@ pub mod Totals
 pub mod Turns
 pub mod Pairing
 pub mod Partners
+pub mod Answering
+pub mod Covered
+pub mod Agreement
+pub mod Ordered
+pub mod Quantities
+pub mod Working

@@ -4,6 +4,8 @@ ghost use Rattle.rulebook.specs.Sheet.{Sheet};
 use calendar::Date;
 use refusals::Refusal;
 
+pub mod theorems;
+
 // Whose nominal an entry holds: the participant's own, or its customers'.
 #[derive(Clone, Copy)]
 pub enum Side {
