@@ -7,8 +7,8 @@ use Rattle.std.proofs.shelf.Lists.{append-nil, append-assoc}
 use Rattle.money.specs.Funds.{Funds}
 use Rattle.rulebook.specs.declared.Call.{Call}
 use Rattle.rulebook.specs.declared.Answer.{Answer}
-use Rattle.rulebook.specs.Words.{Place, Movement, takes, brings, money, out-of, into, Amounts, after, afters, Blocking, Setting, Book, Start}
-use Rattle.rulebook.specs.Rules.{Outcome, rule, answer-by, moves-by}
+use Rattle.rulebook.specs.Words.{Place, Movement, takes, brings, money, out-of, into, after, afters, Blocking, Start}
+use Rattle.rulebook.specs.Rules.{answer-by, moves-by}
 use Rattle.rulebook.specs.Journal.{Journal, taken, brought, paid, received, had, reads, new-book, setting-of, Past, new-past, outcome, step, history-from, answers-from, View, next, run, first-view, told}
 use Rattle.rulebook.specs.Laws.{Journal-agrees}
 use Rattle.rulebook.proofs.Totals.{total-push}

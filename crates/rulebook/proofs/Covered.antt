@@ -1,8 +1,8 @@
 -- What a call moves: each movement is covered by the amounts that those before it left.
 use mathlib.Core.Path.{_≡_, refl, ap, sym, _∙_}
 use mathlib.Core.List.{List, [], _∷_, _++_}
-use mathlib.Core.Bool.{Bool, true, false, cond, _&&_}
-use Prim.Native.Nat.{ℕ, _+_, _-_, _≤_, _<_}
+use mathlib.Core.Bool.{true, cond, _&&_}
+use Prim.Native.Nat.{ℕ, _+_, _≤_}
 use native.Mathlib.Omega.{arith}
 use lib.Dec.{eqb, leb, ltb}
 use Rattle.std.specs.declared.option.Option.{Option}
@@ -18,10 +18,10 @@ use Rattle.rulebook.specs.declared.Placement.{Placement}
 use Rattle.rulebook.specs.declared.Call.{Call}
 use Rattle.rulebook.specs.declared.Call.the-variants as call
 use Rattle.rulebook.specs.States.{on-no-day}
-use Rattle.rulebook.specs.Words.{same-side, Place, place, same, at, Payment, Leg, Movement, takes, money, out-of, Amounts, after, afters, Blocking, Instruction, Setting, Book, blocked, free}
+use Rattle.rulebook.specs.Words.{same-side, Place, place, same, at, Payment, Leg, Movement, takes, money, out-of, Amounts, after, afters, Blocking, Instruction, Setting, Book, free}
 use Rattle.rulebook.specs.Checks.{today, affords, place-checks, held, held-back, redeem-checks}
 use Rattle.rulebook.specs.Rounds.{giver, leg-payment, leg, due, Try, idle, waits, settles, try-leg, try, try-moves, rounds}
-use Rattle.rulebook.specs.Rules.{Outcome, refuses, does, checks, work, rule, moves-by, placing, redeeming, rounded}
+use Rattle.rulebook.specs.Rules.{checks, work, rule, moves-by, placing, redeeming, rounded}
 use Rattle.rulebook.proofs.Answering.{Passes, rule-both}
 
 pub side-true : (s t : Side) → same-side s t ≡ true → s ≡ t

@@ -1,7 +1,6 @@
 -- No call changes an order: what holds of every order on the list goes on holding.
-use mathlib.Core.Path.{_≡_, refl}
-use mathlib.Core.List.{List, [], _∷_, _++_, map}
-use mathlib.Core.Bool.{Bool, true, false, cond, not}
+use mathlib.Core.List.{List, [], _∷_, _++_}
+use mathlib.Core.Bool.{not}
 use Prim.Native.Nat.{ℕ}
 use lib.Dec.{eqb, leb}
 use Rattle.std.specs.declared.option.Option.{Option}
@@ -18,8 +17,8 @@ use Rattle.rulebook.specs.States.{on-no-day, opened}
 use Rattle.rulebook.specs.Words.{Leg, first, return, Amounts, afters, Blocking, Instruction, turned, alike, Setting, Book}
 use Rattle.rulebook.specs.Checks.{may-cancel, is-inside, today, instruct-checks}
 use Rattle.rulebook.specs.Matching.{is-partner, pair-up, met, admit, arrive, wake, wake-all, leaves, stayers, cancelled-in}
-use Rattle.rulebook.specs.Rounds.{Try, idle, waits, settles, try, try-moves, settled-one, tried, rounds, is-day, ended, ended-all}
-use Rattle.rulebook.specs.Rules.{Outcome, checks, work, rule, book-by, incoming, rounded, closing-list}
+use Rattle.rulebook.specs.Rounds.{Try, idle, waits, settles, try, try-moves, settled-one, tried, rounds, ended, ended-all}
+use Rattle.rulebook.specs.Rules.{checks, work, rule, book-by, incoming, rounded}
 use Rattle.rulebook.proofs.Totals.{all-passing}
 use Rattle.rulebook.proofs.Answering.{Passes, rule-both}
 

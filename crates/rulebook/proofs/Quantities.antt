@@ -1,19 +1,17 @@
 -- Quantities over every list of calls: nothing is short, limits hold, money is conserved.
 use mathlib.Core.Path.{_≡_, refl, ap, sym, subst, _∙_}
-use mathlib.Core.List.{List, [], _∷_, _++_}
+use mathlib.Core.List.{List, [], _∷_}
 use mathlib.Core.Bool.{Bool, true, false, cond, not, _&&_}
 use mathlib.Core.Logic.{_⊎_, inl, inr}
 use Prim.Native.Nat.{ℕ, zero, suc, _+_, _-_, _≤_, _<_}
 use native.Mathlib.Omega.{arith}
-use lib.Dec.{eqb, leb, ltb}
-use lib.ListN.{getD, length}
+use lib.Dec.{eqb, ltb}
+use lib.ListN.{length}
 use Rattle.std.specs.declared.option.Option.{Option}
 use Rattle.std.specs.declared.option.Option.the-variants.{Some, None}
-use Rattle.std.specs.shelf.Lists.{All}
 use Rattle.std.proofs.shelf.Tests.{cond-both, cond-true, cond-false, and-parts, eqb-true, leb-true, ltb-true, cases-lt, cases-bool}
 use Rattle.std.proofs.shelf.Elements.{all-weaker}
 use Rattle.std.proofs.shelf.Ways.{tells}
-use Rattle.calendar.specs.Days.{passing}
 use Rattle.rulebook.specs.declared.Side.{Side}
 use Rattle.rulebook.specs.declared.Side.the-variants.{Own, Customer}
 use Rattle.rulebook.specs.declared.Order.{Order}
@@ -22,13 +20,12 @@ use Rattle.rulebook.specs.declared.Pledge.{Pledge}
 use Rattle.rulebook.specs.declared.Call.{Call}
 use Rattle.rulebook.specs.declared.Call.the-variants as call
 use Rattle.rulebook.specs.States.{on-no-day}
-use Rattle.rulebook.specs.Words.{sum-below, same-side, Place, place, same, at, Payment, Leg, first, return, Movement, placed, settled, redeemed, takes, brings, money, out-of, into, Amounts, after, afters, Blocking, Instruction, Setting, Book, Start, blocked, free, account, payment, priced, outstanding}
-use Rattle.rulebook.specs.Checks.{knows, today, held, place-checks, instruct-checks, pledge-place, block-checks, is-blocking, redeem-checks}
-use Rattle.rulebook.specs.Rounds.{giver, receiver, price-of, leg-payment, leg}
+use Rattle.rulebook.specs.Words.{sum-below, same-side, Place, place, same, at, Payment, first, return, Movement, placed, settled, redeemed, takes, brings, money, out-of, into, Amounts, after, afters, Blocking, Instruction, Setting, Book, Start, blocked, free, account, payment, priced, outstanding}
+use Rattle.rulebook.specs.Checks.{knows, today, held, place-checks, pledge-place, block-checks, is-blocking, redeem-checks}
 use Rattle.rulebook.specs.Rules.{Outcome, checks, work, rule, book-by, moves-by, placing, granted, redeeming}
 use Rattle.rulebook.specs.Journal.{taken, brought, paid, received, had, reads, setting-of, Past, new-past, outcome, step, history-from, history}
 use Rattle.rulebook.specs.Laws.{Sensible}
-use Rattle.rulebook.proofs.Totals.{total-push, total-passing-le, sum-below-same, sum-below-plus}
+use Rattle.rulebook.proofs.Totals.{total-push, total-passing-le, sum-below-same}
 use Rattle.rulebook.proofs.Answering.{Passes, rule-both}
 use Rattle.rulebook.proofs.Covered.{at-le, Along, Legs-keep, moves-along, Covered, covers}
 use Rattle.rulebook.proofs.Agreement.{Backed, none-backed, entered}

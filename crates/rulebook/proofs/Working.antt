@@ -9,7 +9,7 @@ use Rattle.rulebook.specs.declared.Answer.{Answer}
 use Rattle.rulebook.specs.Words.{Start}
 use Rattle.rulebook.specs.Rules.{Outcome, answer-by}
 use Rattle.rulebook.specs.Journal.{Past, new-past, outcome, step, history-from, answers-from, history, answers, reply, View, ruling, view-by, next, first-view, told}
-use Rattle.rulebook.specs.Laws.{Sensible, Lawful, Journal-lawful}
+use Rattle.rulebook.specs.Laws.{Sensible, Journal-lawful}
 use Rattle.rulebook.specs.Works.{Tells, Continues, Works, Continues-all, Worked}
 use Rattle.rulebook.proofs.Agreement.{Backed, none-backed, shown, stepped, backed-from, first-shown}
 
