@@ -38,10 +38,10 @@ module _ (f : Funds) (j : Journal) (bs : List Blocking) (v : Movement) (h : Back
 
   pub backed-more : Backed f (j ++ v ∷ [])
   backed-more =
-      record
-        { nominal = λ p. omega (arith, takes-more p, brings-more p, c .nominal p, h .nominal p)
-        ; balance = λ x. omega (arith, pays-more x, gets-more x, c .balance x, h .balance x)
-        }
+      record {
+        nominal = λ p. omega (arith, takes-more p, brings-more p, c .nominal p, h .nominal p);
+        balance = λ x. omega (arith, pays-more x, gets-more x, c .balance x, h .balance x);
+      }
 
   nominals : (p : Place) → after v (reads f j) .nominal p ≡ reads f (j ++ v ∷ []) .nominal p
   nominals p = omega (arith, takes-more p, brings-more p, c .nominal p, h .nominal p)
@@ -72,7 +72,7 @@ pub stepped : (s : Start) (h : Past) (c : Call) → Backed (s .funds) (h .journa
 stepped s h c b =
     let o = outcome s h c in
     let r = entered (s .funds) (h .journal) (h .book .blockings .standing) (moves-by o) b
-          (covers (setting-of s) (reads (s .funds) (h .journal)) (h .book) c) in
+    (covers (setting-of s) (reads (s .funds) (h .journal)) (h .book) c) in
     (λ i. (record { setting = setting-of s; book = step s h c .book; amounts = r .0 i }, answer-by o), r .1)
 
 pub backed-from : (s : Start) (h : Past) (cs : List Call) → Backed (s .funds) (h .journal)

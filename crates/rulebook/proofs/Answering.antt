@@ -76,7 +76,7 @@ working v (call.Releasing p n) = accepting v (done v (call.Releasing p n)) refl
 working v call.Round = accepting v (done v call.Round) refl
 working v call.Closing =
     accepting v (done v call.Closing)
-      (cond-both (eqb (v .book .standing .state) on-no-day) _ _ (λ o. answer-letter (answer-by o) ≡ 65) (λ _. refl) (λ _. refl))
+    (cond-both (eqb (v .book .standing .state) on-no-day) _ _ (λ o. answer-letter (answer-by o) ≡ 65) (λ _. refl) (λ _. refl))
 working v (call.Redeeming i p) = accepting v (done v (call.Redeeming i p)) refl
 working v (call.AskingStatus n) = asking v (found (has-serial n) (v .book .instructions .standing))
 working v (call.AskingHolding p i) = accepting v (done v (call.AskingHolding p i)) refl
@@ -119,13 +119,13 @@ closes st a k =
 
 pub turns-granted : Turns-granted
 turns-granted =
-    record
-      { opening = λ v e. ap answer-by (only-holds (eqb (v .book .standing .state) shut) _ (eq-eqb (v .book .standing .state) shut e))
-      ; closing = λ v e.
+    record {
+      opening = λ v e. ap answer-by (only-holds (eqb (v .book .standing .state) shut) _ (eq-eqb (v .book .standing .state) shut e));
+      closing = λ v e.
           let o = work (v .setting) (v .amounts) (v .book) call.Closing in
           let h = closes (v .setting) (v .amounts) (v .book) in
-          (h .0, h .1, ap answer-by (only-holds _ o e) ∙ h .2)
-      }
+          (h .0, h .1, ap answer-by (only-holds _ o e) ∙ h .2);
+    }
 
 pub knows-plainly : Knows-plainly
 knows-plainly s h p = grind (arith, tells, h .known)

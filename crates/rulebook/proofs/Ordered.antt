@@ -98,8 +98,8 @@ module _ (Q : Order → Type 0) where
   ends : (d : ℕ) (i : Instruction) → Of i → Of (ended d i)
   ends d i q =
       cond-both (alike (i .fate) fate.Unmatched) _ _ Of (λ _. q)
-        (λ _. cond-both (alike (i .fate) fate.Matched) _ _ Of (λ _. q)
-          (λ _. cond-both _ _ i Of (λ _. q) (λ _. q)))
+      (λ _. cond-both (alike (i .fate) fate.Matched) _ _ Of (λ _. q)
+      (λ _. cond-both _ _ i Of (λ _. q) (λ _. q)))
 
   pub ends-all : (d : ℕ) (is : List Instruction) → Orders Q is → Orders Q (ended-all d is)
   ends-all d [] a = tt
@@ -115,7 +115,7 @@ module _ (Q : Order → Type 0) where
       each : (c : Call) → Passes (checks st a k c) → Orders Q (book-by k (work st a k c) .instructions .standing)
       each call.Opening g =
           wakes-all (opened (st .days) (k .standing) .day) [] (stayers (k .instructions .standing)) tt
-            (all-passing Of (λ i. not (leaves (k .instructions .standing) i)) (k .instructions .standing) h)
+          (all-passing Of (λ i. not (leaves (k .instructions .standing) i)) (k .instructions .standing) h)
       each (call.NewIssue i d) g = h
       each (call.Placing o) g = h
       each (call.Instructing o) g = arrives (today k) (k .instructions .standing) (incoming k o) h (new o g)
@@ -125,7 +125,7 @@ module _ (Q : Order → Type 0) where
       each call.Round g = tries-all st (today k) (k .blockings .standing) (k .instructions .standing) a h
       each call.Closing g =
           cond-both (eqb (k .standing .state) on-no-day) _ _ (λ o. Orders Q (book-by k o .instructions .standing)) (λ _. h)
-            (λ _. ends-all (today k) (rounded st a k .0) (tries-all st (today k) (k .blockings .standing) (k .instructions .standing) a h))
+          (λ _. ends-all (today k) (rounded st a k .0) (tries-all st (today k) (k .blockings .standing) (k .instructions .standing) a h))
       each (call.Redeeming i p) g = h
       each (call.AskingStatus n) g = h
       each (call.AskingHolding p i) g = h
