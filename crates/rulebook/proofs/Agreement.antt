@@ -7,8 +7,8 @@ use Rattle.std.proofs.shelf.Lists.{append-nil, append-assoc}
 use Rattle.money.specs.Funds.{Funds}
 use Rattle.rulebook.specs.declared.Call.{Call}
 use Rattle.rulebook.specs.declared.Answer.{Answer}
-use Rattle.rulebook.specs.Words.{Place, Movement, takes, brings, money, out-of, into, Amounts, after, afters, Blocking, Setting, Book, Start}
-use Rattle.rulebook.specs.Rules.{Outcome, rule, answer-by, moves-by}
+use Rattle.rulebook.specs.Words.{Place, Movement, takes, brings, money, out-of, into, after, afters, Blocking, Start}
+use Rattle.rulebook.specs.Rules.{answer-by, moves-by}
 use Rattle.rulebook.specs.Journal.{Journal, taken, brought, paid, received, had, reads, new-book, setting-of, Past, new-past, outcome, step, history-from, answers-from, View, next, run, first-view, told}
 use Rattle.rulebook.specs.Laws.{Journal-agrees}
 use Rattle.rulebook.proofs.Totals.{total-push}
@@ -38,10 +38,10 @@ module _ (f : Funds) (j : Journal) (bs : List Blocking) (v : Movement) (h : Back
 
   pub backed-more : Backed f (j ++ v ∷ [])
   backed-more =
-      record
-        { nominal = λ p. omega (arith, takes-more p, brings-more p, c .nominal p, h .nominal p)
-        ; balance = λ x. omega (arith, pays-more x, gets-more x, c .balance x, h .balance x)
-        }
+      record {
+        nominal = λ p. omega (arith, takes-more p, brings-more p, c .nominal p, h .nominal p);
+        balance = λ x. omega (arith, pays-more x, gets-more x, c .balance x, h .balance x);
+      }
 
   nominals : (p : Place) → after v (reads f j) .nominal p ≡ reads f (j ++ v ∷ []) .nominal p
   nominals p = omega (arith, takes-more p, brings-more p, c .nominal p, h .nominal p)
@@ -72,7 +72,7 @@ pub stepped : (s : Start) (h : Past) (c : Call) → Backed (s .funds) (h .journa
 stepped s h c b =
     let o = outcome s h c in
     let r = entered (s .funds) (h .journal) (h .book .blockings .standing) (moves-by o) b
-          (covers (setting-of s) (reads (s .funds) (h .journal)) (h .book) c) in
+    (covers (setting-of s) (reads (s .funds) (h .journal)) (h .book) c) in
     (λ i. (record { setting = setting-of s; book = step s h c .book; amounts = r .0 i }, answer-by o), r .1)
 
 pub backed-from : (s : Start) (h : Past) (cs : List Call) → Backed (s .funds) (h .journal)

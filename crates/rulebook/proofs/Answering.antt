@@ -1,15 +1,14 @@
 -- What a call answers: refusals change nothing, and each state takes its own calls.
-use mathlib.Core.Path.{_≡_, refl, ap, sym, _∙_}
+use mathlib.Core.Path.{_≡_, refl, ap, _∙_}
 use mathlib.Core.List.{List, [], _∷_}
-use mathlib.Core.Bool.{Bool, true, false, cond, _&&_, _||_}
-use Prim.Native.Nat.{ℕ, _+_, _≤_, _<_}
+use mathlib.Core.Bool.{Bool, true, false}
+use Prim.Native.Nat.{ℕ}
 use native.Mathlib.Omega.{arith}
-use lib.Dec.{eqb, ltb}
-use lib.ListN.{length}
+use lib.Dec.{eqb}
 use Rattle.std.specs.declared.option.Option.{Option}
 use Rattle.std.specs.declared.option.Option.the-variants.{Some, None}
 use Rattle.std.specs.declared.result.Result.{Result}
-use Rattle.std.specs.declared.result.Result.the-variants.{Ok, Err}
+use Rattle.std.specs.declared.result.Result.the-variants.{Err}
 use Rattle.std.proofs.shelf.Tests.{cond-both, cond-false, eq-eqb, both-ways}
 use Rattle.std.proofs.shelf.Ways.{tells}
 use Rattle.refusals.specs.declared.Refusal.{Refusal}
@@ -18,13 +17,13 @@ use Rattle.rulebook.specs.declared.Call.{Call}
 use Rattle.rulebook.specs.declared.Call.the-variants as call
 use Rattle.rulebook.specs.declared.Answer.{Answer}
 use Rattle.rulebook.specs.declared.Answer.the-variants as answer
-use Rattle.rulebook.specs.States.{shut, on-a-day, on-no-day}
+use Rattle.rulebook.specs.States.{shut, on-no-day}
 use Rattle.rulebook.specs.Answers.{answer-letter}
-use Rattle.rulebook.specs.Words.{found, Movement, Amounts, Instruction, Setting, Book, Start}
-use Rattle.rulebook.specs.Checks.{Check, verdict, open-checks, close-checks, has-serial, is-on-a-day}
-use Rattle.rulebook.specs.Rules.{Outcome, refuses, does, status-of, checks, work, ruled, rule, answer-by, shuts, rounded, closing-list, legs-done, close-work, opening-day}
-use Rattle.rulebook.specs.Journal.{View, ruling, view-by, next}
-use Rattle.rulebook.specs.Laws.{suits, State-refuses, Turns-granted, Refusal-keeps, Sensible, Knows-plainly}
+use Rattle.rulebook.specs.Words.{found, Amounts, Instruction, Setting, Book}
+use Rattle.rulebook.specs.Checks.{Check, verdict, has-serial}
+use Rattle.rulebook.specs.Rules.{Outcome, refuses, does, status-of, checks, work, ruled, rule, answer-by, close-work}
+use Rattle.rulebook.specs.Journal.{View, view-by}
+use Rattle.rulebook.specs.Laws.{suits, State-refuses, Turns-granted, Refusal-keeps, Knows-plainly}
 
 -- each check holds
 abbrev pub Passes : List Check → Type 0
@@ -77,7 +76,7 @@ working v (call.Releasing p n) = accepting v (done v (call.Releasing p n)) refl
 working v call.Round = accepting v (done v call.Round) refl
 working v call.Closing =
     accepting v (done v call.Closing)
-      (cond-both (eqb (v .book .standing .state) on-no-day) _ _ (λ o. answer-letter (answer-by o) ≡ 65) (λ _. refl) (λ _. refl))
+    (cond-both (eqb (v .book .standing .state) on-no-day) _ _ (λ o. answer-letter (answer-by o) ≡ 65) (λ _. refl) (λ _. refl))
 working v (call.Redeeming i p) = accepting v (done v (call.Redeeming i p)) refl
 working v (call.AskingStatus n) = asking v (found (has-serial n) (v .book .instructions .standing))
 working v (call.AskingHolding p i) = accepting v (done v (call.AskingHolding p i)) refl
@@ -120,13 +119,13 @@ closes st a k =
 
 pub turns-granted : Turns-granted
 turns-granted =
-    record
-      { opening = λ v e. ap answer-by (only-holds (eqb (v .book .standing .state) shut) _ (eq-eqb (v .book .standing .state) shut e))
-      ; closing = λ v e.
+    record {
+      opening = λ v e. ap answer-by (only-holds (eqb (v .book .standing .state) shut) _ (eq-eqb (v .book .standing .state) shut e));
+      closing = λ v e.
           let o = work (v .setting) (v .amounts) (v .book) call.Closing in
           let h = closes (v .setting) (v .amounts) (v .book) in
-          (h .0, h .1, ap answer-by (only-holds _ o e) ∙ h .2)
-      }
+          (h .0, h .1, ap answer-by (only-holds _ o e) ∙ h .2);
+    }
 
 pub knows-plainly : Knows-plainly
 knows-plainly s h p = grind (arith, tells, h .known)

@@ -1,8 +1,8 @@
 -- What a call moves: each movement is covered by the amounts that those before it left.
 use mathlib.Core.Path.{_≡_, refl, ap, sym, _∙_}
 use mathlib.Core.List.{List, [], _∷_, _++_}
-use mathlib.Core.Bool.{Bool, true, false, cond, _&&_}
-use Prim.Native.Nat.{ℕ, _+_, _-_, _≤_, _<_}
+use mathlib.Core.Bool.{true, cond, _&&_}
+use Prim.Native.Nat.{ℕ, _+_, _≤_}
 use native.Mathlib.Omega.{arith}
 use lib.Dec.{eqb, leb, ltb}
 use Rattle.std.specs.declared.option.Option.{Option}
@@ -18,10 +18,10 @@ use Rattle.rulebook.specs.declared.Placement.{Placement}
 use Rattle.rulebook.specs.declared.Call.{Call}
 use Rattle.rulebook.specs.declared.Call.the-variants as call
 use Rattle.rulebook.specs.States.{on-no-day}
-use Rattle.rulebook.specs.Words.{same-side, Place, place, same, at, Payment, Leg, Movement, takes, money, out-of, Amounts, after, afters, Blocking, Instruction, Setting, Book, blocked, free}
+use Rattle.rulebook.specs.Words.{same-side, Place, place, same, at, Payment, Leg, Movement, takes, money, out-of, Amounts, after, afters, Blocking, Instruction, Setting, Book, free}
 use Rattle.rulebook.specs.Checks.{today, affords, place-checks, held, held-back, redeem-checks}
 use Rattle.rulebook.specs.Rounds.{giver, leg-payment, leg, due, Try, idle, waits, settles, try-leg, try, try-moves, rounds}
-use Rattle.rulebook.specs.Rules.{Outcome, refuses, does, checks, work, rule, moves-by, placing, redeeming, rounded}
+use Rattle.rulebook.specs.Rules.{checks, work, rule, moves-by, placing, redeeming, rounded}
 use Rattle.rulebook.proofs.Answering.{Passes, rule-both}
 
 pub side-true : (s t : Side) → same-side s t ≡ true → s ≡ t
@@ -34,11 +34,11 @@ pub same-true : (p q : Place) → same p q ≡ true → p ≡ q
 same-true p q e =
     let h = and-parts (eqb (p .participant) (q .participant)) (eqb (p .issue) (q .issue) && same-side (p .side) (q .side)) e in
     let g = and-parts (eqb (p .issue) (q .issue)) (same-side (p .side) (q .side)) (h .1) in
-    λ i. record
-      { participant = eqb-true (p .participant) (q .participant) (h .0) i
-      ; issue = eqb-true (p .issue) (q .issue) (g .0) i
-      ; side = side-true (p .side) (q .side) (g .1) i
-      }
+    λ i. record {
+      participant = eqb-true (p .participant) (q .participant) (h .0) i;
+      issue = eqb-true (p .issue) (q .issue) (g .0) i;
+      side = side-true (p .side) (q .side) (g .1) i;
+    }
 
 -- what is at a place is within f, if it is there
 pub at-le : (f : Place → ℕ) (p q : Place) (n : ℕ) → n ≤ f p → at p n q ≤ f q
@@ -54,15 +54,15 @@ two-at f p i u c q hu hc =
     0
     (λ n. n + at (place p i Customer) c q ≤ f q)
     (λ e. cond-both
-      (same (place p i Customer) q)
-      c
-      0
-      (λ n. u + n ≤ f q)
-      (λ d.
-        let z : Own ≡ Customer = ap (λ (w : Place). w .side) (same-true (place p i Own) q e ∙ sym (same-true (place p i Customer) q d)) in
-        let w : _≡_ {A = ℕ} 0 1 = cc in
-        omega arith)
-      (λ _. let h : u ≤ f q = rw (← same-true (place p i Own) q e) hu in omega arith))
+    (same (place p i Customer) q)
+    c
+    0
+    (λ n. u + n ≤ f q)
+    (λ d.
+    let z : Own ≡ Customer = ap (λ (w : Place). w .side) (same-true (place p i Own) q e ∙ sym (same-true (place p i Customer) q d)) in
+    let w : _≡_ {A = ℕ} 0 1 = cc in
+    omega arith)
+    (λ _. let h : u ≤ f q = rw (← same-true (place p i Own) q e) hu in omega arith))
     (λ _. omega (arith, at-le f (place p i Customer) q c hc))
 
 pub affords-le : (a : Amounts) (y : Option Payment) (x : ℕ) → affords a y ≡ true → out-of y x ≤ a .balance x
@@ -95,12 +95,12 @@ try-both Q st d bs a i none wait settle = go (due d i)
         (waits NominalShort)
         Q
         (λ l. cond-both
-          (affords a (leg-payment st (i .order) e))
-          (settles e)
-          (waits MoneyShort)
-          Q
-          (settle e (leb-true (i .order .nominal) (free a bs (giver (i .order) e)) l))
-          (λ _. wait MoneyShort))
+        (affords a (leg-payment st (i .order) e))
+        (settles e)
+        (waits MoneyShort)
+        Q
+        (settle e (leb-true (i .order .nominal) (free a bs (giver (i .order) e)) l))
+        (λ _. wait MoneyShort))
         (λ _. wait NominalShort)
 
 -- P of an instruction's legs, at whatever amounts they settle
@@ -116,8 +116,8 @@ rounds-along P st d bs (i ∷ is) a h =
     let t = try st d bs a i in
     let b = afters (try-moves st d i t) a in
     along-append P (try-moves st d i t) (rounds st d bs is b .1) a
-      (try-both (λ u. Along P (try-moves st d i u) a) st d bs a i tt (λ _. tt) (λ e n m. (h .0 a e n m, tt)))
-      (rounds-along P st d bs is b (h .1))
+    (try-both (λ u. Along P (try-moves st d i u) a) st d bs a i tt (λ _. tt) (λ e n m. (h .0 a e n m, tt)))
+    (rounds-along P st d bs is b (h .1))
 
 -- P of what each kind of call moves is P along all that it moves
 pub moves-along : (P : Amounts → Movement → Type 0) (st : Setting) (a : Amounts) (k : Book) (c : Call)
@@ -151,10 +151,10 @@ pub record Covered (bs : List Blocking) (a : Amounts) (v : Movement) : Type 0 wh
 
 leg-covered : (st : Setting) (d : ℕ) (bs : List Blocking) (i : Instruction) → Legs-keep (Covered bs) st d bs i
 leg-covered st d bs i a e n m =
-    record
-      { nominal = λ p. at-le (free a bs) (giver (i .order) e) p (i .order .nominal) n
-      ; balance = λ x. affords-le a (leg-payment st (i .order) e) x m
-      }
+    record {
+      nominal = λ p. at-le (free a bs) (giver (i .order) e) p (i .order .nominal) n;
+      balance = λ x. affords-le a (leg-payment st (i .order) e) x m;
+    }
 
 all-legs : (st : Setting) (d : ℕ) (bs : List Blocking) (is : List Instruction) → All (Legs-keep (Covered bs) st d bs) is
 all-legs st d bs [] = tt
@@ -165,15 +165,15 @@ redeem-covered : (st : Setting) (a : Amounts) (k : Book) (i p : ℕ) → Passes 
 redeem-covered st a k i p h =
     let bs = k .blockings .standing in
     let none : held-back bs p i ≡ 0 = eqb-true (held-back bs p i) 0 (and-parts (ltb 0 (held a p i)) (eqb (held-back bs p i) 0) (h .1 .1 .1 .1 .0) .1) in
-    record
-      { nominal = λ q. two-at (free a bs) p i (a .nominal (place p i Own)) (a .nominal (place p i Customer)) q (omega arith) (omega arith)
-      ; balance = λ x. affords-le a (money (redeeming st a k i p)) x (h .1 .1 .1 .1 .1 .0)
-      }
+    record {
+      nominal = λ q. two-at (free a bs) p i (a .nominal (place p i Own)) (a .nominal (place p i Customer)) q (omega arith) (omega arith);
+      balance = λ x. affords-le a (money (redeeming st a k i p)) x (h .1 .1 .1 .1 .1 .0);
+    }
 
 -- whatever a call moves is covered
 pub covers : (st : Setting) (a : Amounts) (k : Book) (c : Call) → Along (Covered (k .blockings .standing)) (moves-by (rule st a k c)) a
 covers st a k c =
     moves-along (Covered (k .blockings .standing)) st a k c
-      (λ o h. record { nominal = λ p. omega arith; balance = λ x. affords-le a (money (placing st k o)) x (h .1 .1 .1 .1 .1 .1 .0) })
-      (all-legs st (today k) (k .blockings .standing) (k .instructions .standing))
-      (redeem-covered st a k)
+    (λ o h. record { nominal = λ p. omega arith; balance = λ x. affords-le a (money (placing st k o)) x (h .1 .1 .1 .1 .1 .1 .0) })
+    (all-legs st (today k) (k .blockings .standing) (k .instructions .standing))
+    (redeem-covered st a k)

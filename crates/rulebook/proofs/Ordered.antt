@@ -1,7 +1,6 @@
 -- No call changes an order: what holds of every order on the list goes on holding.
-use mathlib.Core.Path.{_≡_, refl}
-use mathlib.Core.List.{List, [], _∷_, _++_, map}
-use mathlib.Core.Bool.{Bool, true, false, cond, not}
+use mathlib.Core.List.{List, [], _∷_, _++_}
+use mathlib.Core.Bool.{not}
 use Prim.Native.Nat.{ℕ}
 use lib.Dec.{eqb, leb}
 use Rattle.std.specs.declared.option.Option.{Option}
@@ -18,8 +17,8 @@ use Rattle.rulebook.specs.States.{on-no-day, opened}
 use Rattle.rulebook.specs.Words.{Leg, first, return, Amounts, afters, Blocking, Instruction, turned, alike, Setting, Book}
 use Rattle.rulebook.specs.Checks.{may-cancel, is-inside, today, instruct-checks}
 use Rattle.rulebook.specs.Matching.{is-partner, pair-up, met, admit, arrive, wake, wake-all, leaves, stayers, cancelled-in}
-use Rattle.rulebook.specs.Rounds.{Try, idle, waits, settles, try, try-moves, settled-one, tried, rounds, is-day, ended, ended-all}
-use Rattle.rulebook.specs.Rules.{Outcome, checks, work, rule, book-by, incoming, rounded, closing-list}
+use Rattle.rulebook.specs.Rounds.{Try, idle, waits, settles, try, try-moves, settled-one, tried, rounds, ended, ended-all}
+use Rattle.rulebook.specs.Rules.{checks, work, rule, book-by, incoming, rounded}
 use Rattle.rulebook.proofs.Totals.{all-passing}
 use Rattle.rulebook.proofs.Answering.{Passes, rule-both}
 
@@ -99,8 +98,8 @@ module _ (Q : Order → Type 0) where
   ends : (d : ℕ) (i : Instruction) → Of i → Of (ended d i)
   ends d i q =
       cond-both (alike (i .fate) fate.Unmatched) _ _ Of (λ _. q)
-        (λ _. cond-both (alike (i .fate) fate.Matched) _ _ Of (λ _. q)
-          (λ _. cond-both _ _ i Of (λ _. q) (λ _. q)))
+      (λ _. cond-both (alike (i .fate) fate.Matched) _ _ Of (λ _. q)
+      (λ _. cond-both _ _ i Of (λ _. q) (λ _. q)))
 
   pub ends-all : (d : ℕ) (is : List Instruction) → Orders Q is → Orders Q (ended-all d is)
   ends-all d [] a = tt
@@ -116,7 +115,7 @@ module _ (Q : Order → Type 0) where
       each : (c : Call) → Passes (checks st a k c) → Orders Q (book-by k (work st a k c) .instructions .standing)
       each call.Opening g =
           wakes-all (opened (st .days) (k .standing) .day) [] (stayers (k .instructions .standing)) tt
-            (all-passing Of (λ i. not (leaves (k .instructions .standing) i)) (k .instructions .standing) h)
+          (all-passing Of (λ i. not (leaves (k .instructions .standing) i)) (k .instructions .standing) h)
       each (call.NewIssue i d) g = h
       each (call.Placing o) g = h
       each (call.Instructing o) g = arrives (today k) (k .instructions .standing) (incoming k o) h (new o g)
@@ -126,7 +125,7 @@ module _ (Q : Order → Type 0) where
       each call.Round g = tries-all st (today k) (k .blockings .standing) (k .instructions .standing) a h
       each call.Closing g =
           cond-both (eqb (k .standing .state) on-no-day) _ _ (λ o. Orders Q (book-by k o .instructions .standing)) (λ _. h)
-            (λ _. ends-all (today k) (rounded st a k .0) (tries-all st (today k) (k .blockings .standing) (k .instructions .standing) a h))
+          (λ _. ends-all (today k) (rounded st a k .0) (tries-all st (today k) (k .blockings .standing) (k .instructions .standing) a h))
       each (call.Redeeming i p) g = h
       each (call.AskingStatus n) g = h
       each (call.AskingHolding p i) g = h

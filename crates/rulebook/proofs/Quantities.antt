@@ -1,19 +1,17 @@
 -- Quantities over every list of calls: nothing is short, limits hold, money is conserved.
 use mathlib.Core.Path.{_≡_, refl, ap, sym, subst, _∙_}
-use mathlib.Core.List.{List, [], _∷_, _++_}
+use mathlib.Core.List.{List, [], _∷_}
 use mathlib.Core.Bool.{Bool, true, false, cond, not, _&&_}
 use mathlib.Core.Logic.{_⊎_, inl, inr}
 use Prim.Native.Nat.{ℕ, zero, suc, _+_, _-_, _≤_, _<_}
 use native.Mathlib.Omega.{arith}
-use lib.Dec.{eqb, leb, ltb}
-use lib.ListN.{getD, length}
+use lib.Dec.{eqb, ltb}
+use lib.ListN.{length}
 use Rattle.std.specs.declared.option.Option.{Option}
 use Rattle.std.specs.declared.option.Option.the-variants.{Some, None}
-use Rattle.std.specs.shelf.Lists.{All}
 use Rattle.std.proofs.shelf.Tests.{cond-both, cond-true, cond-false, and-parts, eqb-true, leb-true, ltb-true, cases-lt, cases-bool}
 use Rattle.std.proofs.shelf.Elements.{all-weaker}
 use Rattle.std.proofs.shelf.Ways.{tells}
-use Rattle.calendar.specs.Days.{passing}
 use Rattle.rulebook.specs.declared.Side.{Side}
 use Rattle.rulebook.specs.declared.Side.the-variants.{Own, Customer}
 use Rattle.rulebook.specs.declared.Order.{Order}
@@ -22,13 +20,12 @@ use Rattle.rulebook.specs.declared.Pledge.{Pledge}
 use Rattle.rulebook.specs.declared.Call.{Call}
 use Rattle.rulebook.specs.declared.Call.the-variants as call
 use Rattle.rulebook.specs.States.{on-no-day}
-use Rattle.rulebook.specs.Words.{sum-below, same-side, Place, place, same, at, Payment, Leg, first, return, Movement, placed, settled, redeemed, takes, brings, money, out-of, into, Amounts, after, afters, Blocking, Instruction, Setting, Book, Start, blocked, free, account, payment, priced, outstanding}
-use Rattle.rulebook.specs.Checks.{knows, today, held, place-checks, instruct-checks, pledge-place, block-checks, is-blocking, redeem-checks}
-use Rattle.rulebook.specs.Rounds.{giver, receiver, price-of, leg-payment, leg}
+use Rattle.rulebook.specs.Words.{sum-below, same-side, Place, place, same, at, Payment, first, return, Movement, placed, settled, redeemed, takes, brings, money, out-of, into, Amounts, after, afters, Blocking, Instruction, Setting, Book, Start, blocked, free, account, payment, priced, outstanding}
+use Rattle.rulebook.specs.Checks.{knows, today, held, place-checks, pledge-place, block-checks, is-blocking, redeem-checks}
 use Rattle.rulebook.specs.Rules.{Outcome, checks, work, rule, book-by, moves-by, placing, granted, redeeming}
 use Rattle.rulebook.specs.Journal.{taken, brought, paid, received, had, reads, setting-of, Past, new-past, outcome, step, history-from, history}
 use Rattle.rulebook.specs.Laws.{Sensible}
-use Rattle.rulebook.proofs.Totals.{total-push, total-passing-le, sum-below-same, sum-below-plus}
+use Rattle.rulebook.proofs.Totals.{total-push, total-passing-le, sum-below-same}
 use Rattle.rulebook.proofs.Answering.{Passes, rule-both}
 use Rattle.rulebook.proofs.Covered.{at-le, Along, Legs-keep, moves-along, Covered, covers}
 use Rattle.rulebook.proofs.Agreement.{Backed, none-backed, entered}
@@ -71,7 +68,7 @@ pub at-sum : (n i m : ℕ) (g : Place) → g .participant < n
     → sum-below n (λ p. at g m (place p i Own) + at g m (place p i Customer)) ≡ cond (eqb (g .issue) i) m 0
 at-sum n i m g l =
     sum-below-same n (λ p. at g m (place p i Own) + at g m (place p i Customer)) (λ p. cond (eqb (g .participant) p) (cond (eqb (g .issue) i) m 0) 0)
-      (λ p _. both-sides (eqb (g .participant) p) (eqb (g .issue) i) (g .side) m)
+    (λ p _. both-sides (eqb (g .participant) p) (eqb (g .issue) i) (g .side) m)
     ∙ sum-below-one n (g .participant) (cond (eqb (g .issue) i) m 0)
     ∙ inside (cond (eqb (g .issue) i) m 0)
   where
@@ -115,11 +112,11 @@ module _ (st : Setting) (b : ℕ) (bs : List Blocking) where
       → outstanding st (after v a) i + outgoing v i ≡ outstanding st a i + incoming v i
   outstanding-after a v i c =
       sum-below-shift (st .participants)
-        (λ p. a .nominal (place p i Own) + a .nominal (place p i Customer))
-        (λ p. after v a .nominal (place p i Own) + after v a .nominal (place p i Customer))
-        (λ p. takes v (place p i Own) + takes v (place p i Customer))
-        (λ p. brings v (place p i Own) + brings v (place p i Customer))
-        (λ p. omega (arith, c .nominal (place p i Own), c .nominal (place p i Customer)))
+      (λ p. a .nominal (place p i Own) + a .nominal (place p i Customer))
+      (λ p. after v a .nominal (place p i Own) + after v a .nominal (place p i Customer))
+      (λ p. takes v (place p i Own) + takes v (place p i Customer))
+      (λ p. brings v (place p i Own) + brings v (place p i Customer))
+      (λ p. omega (arith, c .nominal (place p i Own), c .nominal (place p i Customer)))
 
   bounds : (a : Amounts) (v : Movement) (i : ℕ) → Covered bs a v → Allowed st b a v → outstanding st a i ≤ 1000000000000000
       → outstanding st (after v a) i ≤ 1000000000000000
@@ -133,16 +130,18 @@ module _ (st : Setting) (b : ℕ) (bs : List Blocking) where
       go (inr t) = omega (arith, outstanding-after a (placed d p m y) i c, at-sum (st .participants) i m p (w .0), cond-false (eqb (p .issue) i) m 0 t)
   bounds a (settled d t e g r m y) i c w h =
       let f : cond (eqb (g .issue) i) m 0 ≡ cond (eqb (r .issue) i) m 0 = ap {B = ℕ} (λ k. cond (eqb k i) m 0) (w .2) in
-      omega
-        ( arith
-        , outstanding-after a (settled d t e g r m y) i c
-        , at-sum (st .participants) i m g (w .0)
-        , at-sum (st .participants) i m r (w .1))
+      omega (
+        arith,
+        outstanding-after a (settled d t e g r m y) i c,
+        at-sum (st .participants) i m g (w .0),
+        at-sum (st .participants) i m r (w .1),
+      )
   bounds a (redeemed d p k u q y) i c w h =
-      omega
-        ( arith
-        , outstanding-after a (redeemed d p k u q y) i c
-        , sum-below-zero (st .participants) (λ _. 0 + 0) (λ _. refl))
+      omega (
+        arith,
+        outstanding-after a (redeemed d p k u q y) i c,
+        sum-below-zero (st .participants) (λ _. 0 + 0) (λ _. refl),
+      )
 
   stays-outside : (a : Amounts) (v : Movement) (q : Place) → Allowed st b a v → st .participants ≤ q .participant → brings v q ≡ 0
   stays-outside a (placed d p m y) q w l = at-elsewhere p q m (omega (arith, w .0))
@@ -166,16 +165,17 @@ module _ (st : Setting) (b : ℕ) (bs : List Blocking) where
   sound-after : (fund : ℕ) (a : Amounts) (v : Movement) → Sound st b fund bs a → Covered bs a v → Allowed st b a v
       → Sound st b fund bs (after v a)
   sound-after fund a v h c w =
-      record
-        { covered = λ p. omega (arith, h .covered p, c .nominal p)
-        ; outside = λ p l. omega (arith, h .outside p l, stays-outside a v p w l)
-        ; bounded = λ i. bounds a v i c w (h .bounded i)
-        ; conserved = omega
-            ( arith
-            , h .conserved
-            , paid-on (money v) (pays-within a v w)
-            , sum-below-shift b (λ x. a .balance x) (λ x. after v a .balance x) (out-of (money v)) (into (money v)) (λ x. omega (arith, c .balance x)))
-        }
+      record {
+        covered = λ p. omega (arith, h .covered p, c .nominal p);
+        outside = λ p l. omega (arith, h .outside p l, stays-outside a v p w l);
+        bounded = λ i. bounds a v i c w (h .bounded i);
+        conserved = omega (
+          arith,
+          h .conserved,
+          paid-on (money v) (pays-within a v w),
+          sum-below-shift b (λ x. a .balance x) (λ x. after v a .balance x) (out-of (money v)) (into (money v)) (λ x. omega (arith, c .balance x)),
+        );
+      }
 
   pub sound-afters : (fund : ℕ) (a : Amounts) (vs : List Movement) → Sound st b fund bs a → Along (Covered bs) vs a → Along (Allowed st b) vs a
       → Sound st b fund bs (afters vs a)
@@ -207,10 +207,11 @@ module _ (st : Setting) (a : Amounts) (k : Book) where
       each (call.Cancelling p n) g = λ h. h
       each (call.Blocking o) g = blocks o g
       each (call.Releasing p n) g =
-          λ h q. omega
-            ( arith
-            , h q
-            , total-passing-le (λ (b : Blocking). at (b .place) (b .nominal) q) (λ b. not (is-blocking p n b)) (k .blockings .standing))
+          λ h q. omega (
+            arith,
+            h q,
+            total-passing-le (λ (b : Blocking). at (b .place) (b .nominal) q) (λ b. not (is-blocking p n b)) (k .blockings .standing),
+          )
       each call.Round g = λ h. h
       each call.Closing g =
           cond-both (eqb (k .standing .state) on-no-day) _ _ Blocks-covered (λ _ h. h) (λ _ h. h)
@@ -250,10 +251,11 @@ module _ (s : Start) (w : Sensible s) where
 
   place-allowed : (a : Amounts) (k : Book) (o : Placement) → Passes (place-checks st a k o) → Allowed st accounts a (placing st k o)
   place-allowed a k o h =
-      let l = known (o .participant) (h .1 .0) in
-      ( l
-      , leb-true (outstanding st a (o .issue) + o .nominal) 1000000000000000 (h .1 .1 .1 .1 .1 .0)
-      , payment-within (o .participant) 0 (o .price) l (omega (arith, w .some)))
+      let l = known (o .participant) (h .1 .0) in (
+        l,
+        leb-true (outstanding st a (o .issue) + o .nominal) 1000000000000000 (h .1 .1 .1 .1 .1 .0),
+        payment-within (o .participant) 0 (o .price) l (omega (arith, w .some)),
+      )
 
   redeem-allowed : (a : Amounts) (k : Book) (i p : ℕ) → Passes (redeem-checks st a k i p) → Allowed st accounts a (redeeming st a k i p)
   redeem-allowed a k i p h =
@@ -265,12 +267,12 @@ module _ (s : Start) (w : Sensible s) where
       → Along (Allowed st accounts) (moves-by (rule st a k c)) a
   allows a k c h =
       moves-along (Allowed st accounts) st a k c
-        (place-allowed a k)
-        (all-weaker (λ i. Among (s .participants) (i .order)) (Legs-keep (Allowed st accounts) st (today k) (k .blockings .standing))
-          (leg-allowed (today k) (k .blockings .standing))
-          (k .instructions .standing)
-          h)
-        (redeem-allowed a k)
+      (place-allowed a k)
+      (all-weaker (λ i. Among (s .participants) (i .order)) (Legs-keep (Allowed st accounts) st (today k) (k .blockings .standing))
+      (leg-allowed (today k) (k .blockings .standing))
+      (k .instructions .standing)
+      h)
+      (redeem-allowed a k)
 
   abbrev fund : ℕ
   fund = sum-below accounts (λ x. had (s .funds) x)
@@ -283,16 +285,16 @@ module _ (s : Start) (w : Sensible s) where
 
   first-kept : Kept new-past
   first-kept =
-      record
-        { backed = none-backed (s .funds)
-        ; sound = record
-            { covered = λ p. omega arith
-            ; outside = λ p l. refl
-            ; bounded = λ i. omega (arith, sum-below-zero (s .participants) (λ _. 0 - 0 + (0 - 0)) (λ _. refl))
-            ; conserved = sum-below-same accounts (λ x. had (s .funds) x + 0 - 0) (λ x. had (s .funds) x) (λ x _. omega arith)
-            }
-        ; orders = tt
-        }
+      record {
+        backed = none-backed (s .funds);
+        sound = record {
+          covered = λ p. omega arith;
+          outside = λ p l. refl;
+          bounded = λ i. omega (arith, sum-below-zero (s .participants) (λ _. 0 - 0 + (0 - 0)) (λ _. refl));
+          conserved = sum-below-same accounts (λ x. had (s .funds) x + 0 - 0) (λ x. had (s .funds) x) (λ x _. omega arith);
+        };
+        orders = tt;
+      }
 
   step-kept : (h : Past) (c : Call) → Kept h → Kept (step s h c)
   step-kept h c g =
@@ -303,20 +305,20 @@ module _ (s : Start) (w : Sensible s) where
       let cov = covers st a k c in
       let e = entered (s .funds) (h .journal) bs vs (g .backed) cov in
       let f = sound-afters st accounts bs fund a vs (g .sound) cov (allows a k c (g .orders)) in
-      let b : Sound st accounts fund (step s h c .book .blockings .standing) (afters vs a) = record
-            { covered = blocks-covered st a k c (f .covered)
-            ; outside = f .outside
-            ; bounded = f .bounded
-            ; conserved = f .conserved
-            } in
-      record
-        { backed = e .1
-        ; sound = subst (Sound st accounts fund (step s h c .book .blockings .standing)) (e .0) b
-        ; orders = ordered (Among (s .participants)) st a k c (g .orders)
+      let b : Sound st accounts fund (step s h c .book .blockings .standing) (afters vs a) = record {
+        covered = blocks-covered st a k c (f .covered);
+        outside = f .outside;
+        bounded = f .bounded;
+        conserved = f .conserved;
+      } in
+      record {
+        backed = e .1;
+        sound = subst (Sound st accounts fund (step s h c .book .blockings .standing)) (e .0) b;
+        orders = ordered (Among (s .participants)) st a k c (g .orders)
             (λ o q.
-              let m = and-parts (knows st (o .transferor)) (knows st (o .acquirer)) (q .1 .0) in
-              (known (o .transferor) (m .0), known (o .acquirer) (m .1)))
-        }
+            let m = and-parts (knows st (o .transferor)) (knows st (o .acquirer)) (q .1 .0) in
+            (known (o .transferor) (m .0), known (o .acquirer) (m .1)));
+      }
 
   pub kept-from : (h : Past) (cs : List Call) → Kept h → Kept (history-from s h cs)
   kept-from h [] g = g
@@ -332,9 +334,9 @@ pub record Quantities (s : Start) (h : Past) : Type 0 where
   pub limited : (p : Place) → reads (s .funds) (h .journal) .nominal p ≤ 1000000000000000
   pub bounded : (i : ℕ) → outstanding (setting-of s) (reads (s .funds) (h .journal)) i ≤ 1000000000000000
   pub balance : (x : ℕ)
-    → reads (s .funds) (h .journal) .balance x + paid (h .journal) x ≡ had (s .funds) x + received (h .journal) x
+      → reads (s .funds) (h .journal) .balance x + paid (h .journal) x ≡ had (s .funds) x + received (h .journal) x
   pub conserved : sum-below (length (s .funds .balances)) (λ x. reads (s .funds) (h .journal) .balance x)
-    ≡ sum-below (length (s .funds .balances)) (λ x. had (s .funds) x)
+      ≡ sum-below (length (s .funds .balances)) (λ x. had (s .funds) x)
 
 -- what one participant holds is part of what is outstanding
 pub held-within : (st : Setting) (a : Amounts) (p : Place) → p .participant < st .participants → a .nominal p ≤ outstanding st a (p .issue)
@@ -356,14 +358,14 @@ pub quantities : (s : Start) → Sensible s → (cs : List Call) → Quantities 
 quantities s w cs =
     let h = history s cs in
     let k = kept s w cs in
-    record
-      { nominal = λ p. omega (arith, k .backed .nominal p)
-      ; covered = k .sound .covered
-      ; limited = λ p. limits h k p (cases-lt (p .participant) (s .participants))
-      ; bounded = k .sound .bounded
-      ; balance = λ x. omega (arith, k .backed .balance x)
-      ; conserved = k .sound .conserved
-      }
+    record {
+      nominal = λ p. omega (arith, k .backed .nominal p);
+      covered = k .sound .covered;
+      limited = λ p. limits h k p (cases-lt (p .participant) (s .participants));
+      bounded = k .sound .bounded;
+      balance = λ x. omega (arith, k .backed .balance x);
+      conserved = k .sound .conserved;
+    }
   where
     limits : (h : Past) → Kept s w h → (p : Place) → (p .participant < s .participants) ⊎ (s .participants ≤ p .participant)
         → reads (s .funds) (h .journal) .nominal p ≤ 1000000000000000
