@@ -2,3 +2,4 @@ pub mod Sheet
 pub mod Day
 pub mod Rising
 pub mod Totals
+pub mod Effects
