@@ -11,15 +11,15 @@ use Rattle.std.proofs.shelf.Lists.{append-assoc, append-nil}
 use Rattle.std.proofs.shelf.Tests.{cond-both, and-parts, or-left, or-right}
 use Rattle.std.proofs.shelf.Ways.{tells}
 use Rattle.refusals.specs.declared.Refusal.{Refusal}
-use Rattle.refusals.specs.declared.Refusal.the-variants.{NoPartner}
+use Rattle.refusals.specs.declared.Refusal.the-variants.{NominalShort, MoneyShort, NoPartner}
 use Rattle.calendar.specs.declared.Date.{Date}
 use Rattle.rulebook.specs.declared.Order.{Order}
 use Rattle.rulebook.specs.declared.Fate.{Fate}
 use Rattle.rulebook.specs.declared.Fate.the-variants as fate
-use Rattle.rulebook.specs.Words.{one-if, total, Leg, first, return, same-leg, Movement, is-leg, Amounts, afters, Blocking, Instruction, turned, alike, Setting}
-use Rattle.rulebook.specs.Checks.{is-inside, sender-of, may-cancel, has-serial}
+use Rattle.rulebook.specs.Words.{one-if, total, Leg, first, return, same-leg, Movement, is-leg, Amounts, afters, Blocking, Instruction, turned, alike, Setting, free}
+use Rattle.rulebook.specs.Checks.{affords, is-inside, sender-of, may-cancel, has-serial}
 use Rattle.rulebook.specs.Matching.{same-order, counter, is-partner, pair-up, met, admit, arrive, wake, wake-all, joins, cancelled-in}
-use Rattle.rulebook.specs.Rounds.{leg, is-day, due, Try, idle, waits, settles, try-leg, try, settled-one, tried, try-moves, rounds, is-leg-done, is-leg-refused, ended, ended-all}
+use Rattle.rulebook.specs.Rounds.{giver, leg-payment, leg, is-day, due, Try, idle, waits, settles, try-leg, try, settled-one, tried, try-moves, rounds, is-leg-done, is-leg-refused, ended, ended-all}
 use Rattle.rulebook.specs.Journal.{times}
 use Rattle.rulebook.proofs.Totals.{total-append, total-push}
 
@@ -348,3 +348,100 @@ wake-all-effect d xs (i ∷ is) =
      []
      (effect-append (xs ++ i ∷ []) (wake d xs i) is is [] [] (wake-effect d xs i) (effect-none is))
      (wake-all-effect d (wake d xs i) is))
+
+-- a change of fate that settles a leg
+record Settling (f g : Fate) (l : Leg) : Type 0 where
+  legs : (v : Bool) (e : Leg) → one-if (v && has e g) ≡ one-if (v && has e f) + one-if (v && same-leg l e)
+  joined : (n : ℕ) → joins n g ≡ joins n f
+  leading : leads f ≡ true → leads g ≡ true
+  stays : (k : Fate) → is-final k ≡ true → alike f k ≡ true → alike g k ≡ true
+
+settling-whole : (f : Fate) → alike f fate.Matched ≡ true → Settling f fate.Settled first
+settling-whole f h =
+    record { legs = λ v e. grind arith; joined = λ n. grind arith; leading = λ x. refl; stays = λ k x a. grind arith }
+
+settling-out : (f : Fate) → alike f fate.Matched ≡ true → Settling f fate.RepoOut first
+settling-out f h =
+    record { legs = λ v e. grind arith; joined = λ n. grind arith; leading = λ x. refl; stays = λ k x a. grind arith }
+
+settling-back : (f : Fate) → alike f fate.RepoOut ≡ true → Settling f fate.RepoBack return
+settling-back f h =
+    record { legs = λ v e. grind arith; joined = λ n. grind arith; leading = λ x. refl; stays = λ k x a. grind arith }
+
+effect-settling : (st : Setting) (d : ℕ) (i : Instruction) (g : Fate) (c : Option Refusal) (l : Leg) → Settling (i .fate) g l
+    → Effect (i ∷ []) (turned i g c ∷ []) (leg st d i l ∷ [])
+effect-settling st d i g c l h =
+    record
+      { known = λ n. refl
+      ; legs = λ n e. omega (arith, h .legs (has-serial n i) e)
+      ; led = λ n t _.
+        omega
+        (arith
+        , ap {B = ℕ} (λ w. one-if (w && t (i .order))) (h .joined n)
+        , lead-le (has-serial n i) (leads (i .fate)) (leads g) (t (i .order)) (h .leading))
+      ; stays = λ n f k. omega (arith, one-le (has-serial n i) (alike (i .fate) f) (alike g f) (h .stays f k))
+      }
+
+-- a leg that is due is a matched one's first, or the return of a repo that is out until that day
+abbrev pub Is-due : ℕ → Order → Fate → Option Leg → Type 0
+Is-due d o f None = Unit {0}
+Is-due d o f (Some first) = alike f fate.Matched ≡ true
+Is-due d o f (Some return) = alike f fate.RepoOut && is-day d (o .«return_date») ≡ true
+
+pub is-due : (d : ℕ) (i : Instruction) → Is-due d (i .order) (i .fate) (due d i)
+is-due d i =
+    cond-both
+    (alike (i .fate) fate.Matched)
+    (Some first)
+    (cond (alike (i .fate) fate.RepoOut && is-day d (i .order .«return_date»)) (Some return) None)
+    (Is-due d (i .order) (i .fate))
+    (λ e. e)
+    (λ _. cond-both
+      (alike (i .fate) fate.RepoOut && is-day d (i .order .«return_date»))
+      (Some return)
+      None
+      (Is-due d (i .order) (i .fate))
+      (λ e. e)
+      (λ _. tt))
+
+-- a try is idle, waits, or settles the leg that is due
+pub try-both : (st : Setting) (d : ℕ) (bs : List Blocking) (a : Amounts) (i : Instruction) (P : Try → Type 0)
+    → P idle → ((c : Refusal) → P (waits c)) → ((l : Leg) → Is-due d (i .order) (i .fate) (Some l) → P (settles l)) → P (try st d bs a i)
+try-both st d bs a i P none late done = go (due d i) (is-due d i)
+  where
+    go : (l : Option Leg) → Is-due d (i .order) (i .fate) l → P (try-leg st a bs (i .order) l)
+    go None h = none
+    go (Some l) h =
+        cond-both
+        (leb (i .order .nominal) (free a bs (giver (i .order) l)))
+        (cond (affords a (leg-payment st (i .order) l)) (settles l) (waits MoneyShort))
+        (waits NominalShort)
+        P
+        (λ _. cond-both (affords a (leg-payment st (i .order) l)) (settles l) (waits MoneyShort) P (λ _. done l h) (λ _. late MoneyShort))
+        (λ _. late NominalShort)
+
+settled-effect : (st : Setting) (d : ℕ) (i : Instruction) (l : Leg) (r : Option Date) → Is-due d (i .order) (i .fate) (Some l)
+    → Effect (i ∷ []) (settled-one i l r ∷ []) (leg st d i l ∷ [])
+settled-effect st d i first None h = effect-settling st d i fate.Settled (i .cause) first (settling-whole (i .fate) h)
+settled-effect st d i first (Some e) h = effect-settling st d i fate.RepoOut None first (settling-out (i .fate) h)
+settled-effect st d i return r h =
+    effect-settling st d i fate.RepoBack (i .cause) return
+    (settling-back (i .fate) (and-parts (alike (i .fate) fate.RepoOut) (is-day d (i .order .«return_date»)) h .0))
+
+try-effect : (st : Setting) (d : ℕ) (bs : List Blocking) (a : Amounts) (i : Instruction)
+    → Effect (i ∷ []) (tried i (try st d bs a i) ∷ []) (try-moves st d i (try st d bs a i))
+try-effect st d bs a i =
+    try-both st d bs a i (λ t. Effect (i ∷ []) (tried i t ∷ []) (try-moves st d i t))
+    (effect-none (i ∷ []))
+    (λ c. effect-one i (i .fate) (Some c) (calm-none (i .fate)))
+    (λ l h. settled-effect st d i l (i .order .«return_date») h)
+
+pub round-effect : (st : Setting) (d : ℕ) (bs : List Blocking) (is : List Instruction) (a : Amounts)
+    → Effect is (rounds st d bs is a .0) (rounds st d bs is a .1)
+round-effect st d bs [] a = effect-none []
+round-effect st d bs (i ∷ is) a =
+    let t = try st d bs a i in
+    let b = afters (try-moves st d i t) a in
+    effect-append (i ∷ []) (tried i t ∷ []) is (rounds st d bs is b .0) (try-moves st d i t) (rounds st d bs is b .1)
+    (try-effect st d bs a i)
+    (round-effect st d bs is b)
