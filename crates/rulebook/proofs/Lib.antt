@@ -3,3 +3,4 @@ pub mod Day
 pub mod Rising
 pub mod Totals
 pub mod Effects
+pub mod Punctual
