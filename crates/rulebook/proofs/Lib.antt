@@ -4,3 +4,4 @@ pub mod Rising
 pub mod Totals
 pub mod Effects
 pub mod Punctual
+pub mod Endings
