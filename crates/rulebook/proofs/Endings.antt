@@ -11,7 +11,7 @@ use Rattle.std.specs.declared.result.Result.the-variants.{Ok, Err}
 use Rattle.std.specs.shelf.Lists.{All}
 use Rattle.std.proofs.shelf.Lists.{append-nil}
 use Rattle.std.proofs.shelf.Elements.{all-append, all-weaker}
-use Rattle.std.proofs.shelf.Tests.{cond-both, and-parts, both-ways, leb-true, ltb-true, le-ltb}
+use Rattle.std.proofs.shelf.Tests.{cond-both, and-parts, both-ways, leb-true, eqb-true, eq-eqb, ltb-true}
 use Rattle.std.proofs.shelf.Ways.{tells}
 use Rattle.refusals.specs.declared.Refusal.{Refusal}
 use Rattle.refusals.specs.declared.Refusal.the-variants.{WrongState}
@@ -25,14 +25,14 @@ use Rattle.rulebook.specs.declared.Call.the-variants as call
 use Rattle.rulebook.specs.declared.Answer.the-variants as answer
 use Rattle.rulebook.specs.States.{on-a-day, on-no-day, Standing, opened, closed}
 use Rattle.rulebook.specs.Answers.{behind-fate}
-use Rattle.rulebook.specs.Words.{one-if, total, Leg, first, return, Movement, is-leg, Amounts, Blocking, Instruction, alike, principal, Setting, Book, Start}
+use Rattle.rulebook.specs.Words.{one-if, total, same-side, Leg, first, return, Movement, is-leg, Amounts, Blocking, Instruction, alike, principal, Setting, Book, Start}
 use Rattle.rulebook.specs.Checks.{Check, verdict, today, is-shut, is-on-a-day, matures, return-date-fits, dates-fit, has-serial}
-use Rattle.rulebook.specs.Matching.{arrive, wake-all, leaves, leavers, stayers, same-date, same-order, counter, joins, cancelled-in}
+use Rattle.rulebook.specs.Matching.{arrive, wake-all, leaves, leavers, stayers, other, same-sender, same-date, same-option, same-order, counter, joins, cancelled-in}
 use Rattle.rulebook.specs.Rounds.{is-day, moved-to, is-leg-refused, ended-all}
 use Rattle.rulebook.specs.Rules.{Outcome, refuses, does, with-list, opens, with-issue, placing, incoming, with-order, with-blocking, without-blocking, rounded, legs-done, closing-list, redeeming, shuts, close-work, checks, work, ruled, rule, book-by, moves-by}
 use Rattle.rulebook.specs.Journal.{Journal, times, reads, setting-of, Past, new-past, accepted, leaving, outcome, step, history-from, history}
 use Rattle.rulebook.specs.Laws.{Rises-from, Sensible, day-closed, with-serial, with-fate, endings, return-endings, Stays}
-use Rattle.rulebook.proofs.Totals.{total-append, total-le, total-split, member-le, all-passing}
+use Rattle.rulebook.proofs.Totals.{total-append, total-le, total-split, member-le, all-both, all-passing}
 use Rattle.rulebook.proofs.Effects.{has, leads, is-final, numbered, such, joining, leading, Shared, Effect, effect-none, effect-then, effect-append, cancel-effect, end-effect, arrive-effect, wake-all-effect, round-effect}
 use Rattle.rulebook.proofs.Punctual.{is-waiting, value, Punctual, Fit, Stands, Well, Over, Comes, opening-punctual, arrive-well, wake-all-well, cancel-well, round-well, end-well, rest-well, leavers-over}
 
@@ -370,3 +370,249 @@ ends s sense cs = all-goes s sense new-past new cs
           ; well = tt
           ; over = tt
           }
+
+-- how a past has ended its instructions
+pub record Ended-past (s : Start) (h : Past) : Type 0 where
+  pub once : (n : ℕ) (e : Leg) → times (h .journal) n e ≤ 1
+  pub remembered : (n : ℕ) → with-serial h n ≡ one-if (ltb 0 n && ltb n (h .book .instructions .next))
+  pub never-two : (n : ℕ) → endings h n ≤ 1
+  pub decided : All
+    (λ i. day-closed (h .book .standing) (i .order .«value_date» .number) ≡ true → endings h (principal i) ≡ 1)
+    (accepted h)
+  pub return-never-two : (n : ℕ) → return-endings h n ≤ 1
+  pub return-decided : All
+    (λ i. (d : Date) → i .order .«return_date» ≡ Some d → day-closed (h .book .standing) (d .number) ≡ true
+      → times (h .journal) (principal i) first ≡ 1 → return-endings h (principal i) ≡ 1)
+    (accepted h)
+  pub stays : (c : Call) → Stays h (step s h c)
+
+total-plus : {X : Type 0} (f g : X → ℕ) (xs : List X) → total (λ x. f x + g x) xs ≡ total f xs + total g xs
+total-plus f g [] = refl
+total-plus f g (x ∷ xs) = omega (arith, total-plus f g xs)
+
+-- what holds of every element holds of the sums
+total-every : {X : Type 0} (f g : X → ℕ) (xs : List X) → ((x : X) → f x ≤ g x) → total f xs ≤ total g xs
+total-every f g [] h = omega arith
+total-every f g (x ∷ xs) h = omega (arith, h x, total-every f g xs h)
+
+at-most-one : (b : Bool) → one-if b ≤ 1
+at-most-one true = omega arith
+at-most-one false = omega arith
+
+-- settled, refused or cancelled; its return settled or refused
+abbrev ending : ℕ → Instruction → ℕ
+ending n i = such n (has first) i + (such n (λ g. alike g fate.Refused) i + such n (λ g. alike g fate.Cancelled) i)
+
+abbrev return-ending : ℕ → Instruction → ℕ
+return-ending n i = such n (has return) i + such n (λ g. alike g fate.ReturnRefused) i
+
+such-le : (n : ℕ) (t : Fate → Bool) (i : Instruction) → such n t i ≤ numbered n i
+such-le n t i = go (has-serial n i) (t (i .fate))
+  where
+    go : (v w : Bool) → one-if (v && w) ≤ one-if v
+    go v w = grind arith
+
+ending-le : (n : ℕ) (i : Instruction) → ending n i ≤ numbered n i
+ending-le n i = go (has-serial n i) (i .fate)
+  where
+    go : (v : Bool) (f : Fate) → one-if (v && has first f) + (one-if (v && alike f fate.Refused) + one-if (v && alike f fate.Cancelled)) ≤ one-if v
+    go v f = grind arith
+
+return-ending-le : (n : ℕ) (i : Instruction) → return-ending n i ≤ numbered n i
+return-ending-le n i = go (has-serial n i) (i .fate)
+  where
+    go : (v : Bool) (f : Fate) → one-if (v && has return f) + one-if (v && alike f fate.ReturnRefused) ≤ one-if v
+    go v f = grind arith
+
+-- a value date, and a return date, as tests that partners agree on
+abbrev on-value : ℕ → Order → Bool
+on-value d o = eqb (value o) d
+
+abbrev on-return : ℕ → Order → Bool
+on-return d o = is-day d (o .«return_date»)
+
+-- one that leads and whose value date is closed has ended
+lead-ends : (sd : Standing) (d n : ℕ) (i : Instruction) → day-closed sd d ≡ true → Punctual sd (i .order) (i .fate) → leading n (on-value d) i ≤ ending n i
+lead-ends sd d n i c p = go (has-serial n i) (i .fate) (eqb (value (i .order)) d) (λ w e. absurd (both-ways (day-closed sd (value (i .order))) (p .waiting w) (rw (eqb-true (value (i .order)) d e) c)))
+  where
+    go : (v : Bool) (f : Fate) (t : Bool) → (is-waiting f ≡ true → t ≡ true → ⊥)
+        → one-if (v && (leads f && t)) ≤ one-if (v && has first f) + (one-if (v && alike f fate.Refused) + one-if (v && alike f fate.Cancelled))
+    go v f t h = grind arith
+
+-- each one whose value date is closed has ended, or is joined
+ends-or-joins : (sd : Standing) (i : Instruction) → day-closed sd (value (i .order)) ≡ true → Punctual sd (i .order) (i .fate)
+    → 1 ≤ ending (principal i) i + joining (principal i) (on-value (value (i .order))) i
+ends-or-joins sd i c p = go (i .serial) (value (i .order)) (i .fate) (λ w. both-ways (day-closed sd (value (i .order))) (p .waiting w) c)
+  where
+    go : (s d : ℕ) (f : Fate) → (is-waiting f ≡ true → ⊥)
+        → let n = behind-fate f s in
+          1 ≤ (one-if (eqb s n && has first f) + (one-if (eqb s n && alike f fate.Refused) + one-if (eqb s n && alike f fate.Cancelled))) + one-if (joins n f && eqb d d)
+    go s d f h = grind (arith, tells)
+
+-- one whose first leg settled, and that leads with a closed return date, has ended its return
+return-ends : (sd : Standing) (d : Date) (n : ℕ) (i : Instruction) → day-closed sd (d .number) ≡ true → Punctual sd (i .order) (i .fate)
+    → leading n (on-return (d .number)) i + such n (has first) i ≤ numbered n i + return-ending n i
+return-ends sd d n i c p =
+    by-date (i .order .«return_date») refl
+  where
+    go : (v : Bool) (f : Fate) (t : Bool) → (alike f fate.RepoOut ≡ true → t ≡ true → ⊥) → (alike f fate.Settled ≡ true → t ≡ true → ⊥)
+        → one-if (v && (leads f && t)) + one-if (v && has first f) ≤ one-if v + (one-if (v && has return f) + one-if (v && alike f fate.ReturnRefused))
+    go v f t a b = grind arith
+
+    by-date : (r : Option Date) → i .order .«return_date» ≡ r
+        → one-if (has-serial n i && (leads (i .fate) && is-day (d .number) r)) + such n (has first) i ≤ numbered n i + return-ending n i
+    by-date None q = go (has-serial n i) (i .fate) false (λ _ e. both-ways false refl e) (λ _ e. both-ways false refl e)
+    by-date (Some e) q =
+        go (has-serial n i) (i .fate) (eqb (e .number) (d .number))
+        (λ x z. both-ways (day-closed sd (e .number)) (p .out x e q) (rw (eqb-true (e .number) (d .number) z) c))
+        (λ x _. p .plain x e q)
+
+-- each one with that return date leads, is joined, or does not lead
+return-or-joins : (d : Date) (i : Instruction) → i .order .«return_date» ≡ Some d
+    → 1 ≤ such (principal i) (λ f. not (leads f)) i + (leading (principal i) (on-return (d .number)) i + joining (principal i) (on-return (d .number)) i)
+return-or-joins d i q =
+    go (i .serial) (i .fate) (is-day (d .number) (i .order .«return_date»)) (ap (is-day (d .number)) q ∙ eq-eqb (d .number) (d .number) refl)
+  where
+    go : (s : ℕ) (f : Fate) (t : Bool) → t ≡ true
+        → let n = behind-fate f s in
+          1 ≤ one-if (eqb s n && not (leads f)) + (one-if (eqb s n && (leads f && t)) + one-if (joins n f && t))
+    go s f t h = grind (arith, tells)
+
+led-or-not : (n : ℕ) (i : Instruction) → such n (λ f. not (leads f)) i + such n (has first) i ≤ numbered n i
+led-or-not n i = go (has-serial n i) (i .fate)
+  where
+    go : (v : Bool) (f : Fate) → one-if (v && not (leads f)) + one-if (v && has first f) ≤ one-if v
+    go v f = grind arith
+
+-- partners agree on both dates
+dates-agree : (o q : Order) → same-order o (counter q) ≡ true
+    → (same-date (o .«value_date») (q .«value_date») ≡ true) × (same-option same-date (o .«return_date») (q .«return_date») ≡ true)
+dates-agree o q h =
+    go
+    (same-sender (o .sender) (other (q .sender)))
+    (eqb (o .transferor) (q .transferor))
+    (same-side (o .«transferor_side») (q .«transferor_side»))
+    (eqb (o .acquirer) (q .acquirer))
+    (same-side (o .«acquirer_side») (q .«acquirer_side»))
+    (eqb (o .issue) (q .issue))
+    (eqb (o .nominal) (q .nominal))
+    (same-option eqb (o .price) (q .price))
+    (same-date (o .«value_date») (q .«value_date»))
+    (same-option same-date (o .«return_date») (q .«return_date»))
+    (same-option eqb (o .«return_price») (q .«return_price»))
+    h
+  where
+    go : (a b c d e f g h i j k : Bool) → (a && (b && (c && (d && (e && (f && (g && (h && (i && (j && k)))))))))) ≡ true → (i ≡ true) × (j ≡ true)
+    go a b c d e f g h i j k x = (grind arith, grind arith)
+
+value-shared : (d : ℕ) → Shared (on-value d)
+value-shared d o q h = ap (λ n. eqb n d) (eqb-true (value o) (value q) (dates-agree o q h .0))
+
+return-shared : (d : ℕ) → Shared (on-return d)
+return-shared d o q h = go (o .«return_date») (q .«return_date») (dates-agree o q h .1)
+  where
+    go : (a b : Option Date) → same-option same-date a b ≡ true → is-day d a ≡ is-day d b
+    go None None e = refl
+    go None (Some y) e = absurd (both-ways false refl e)
+    go (Some x) None e = absurd (both-ways false refl e)
+    go (Some x) (Some y) e = ap (λ n. eqb n d) (eqb-true (x .number) (y .number) e)
+
+module _ (s : Start) (h : Past) (i : Ends s h) where
+  abbrev zs : List Instruction
+  zs = accepted h
+
+  abbrev sd : Standing
+  sd = h .book .standing
+
+  all-punctual : All (λ x. Punctual sd (x .order) (x .fate)) zs
+  all-punctual =
+      all-append (λ (x : Instruction). Punctual sd (x .order) (x .fate)) (h .book .instructions .standing) (h .departed)
+      (all-weaker (Well (s .days) sd) (λ x. Punctual sd (x .order) (x .fate)) (λ x w. w .punctual) (h .book .instructions .standing) (i .well))
+      (all-weaker Over (λ x. Punctual sd (x .order) (x .fate)) (λ x o. o sd) (h .departed) (i .over))
+
+  known-once : (n : ℕ) → total (numbered n) zs ≤ 1
+  known-once n = omega (arith, i .counted .known n, at-most-one (ltb 0 n && ltb n (h .book .instructions .next)))
+
+  endings-are : (n : ℕ) → endings h n ≡ total (ending n) zs
+  endings-are n =
+      omega
+      (arith
+      , i .counted .legs n first
+      , total-plus (such n (has first)) (λ x. such n (λ g. alike g fate.Refused) x + such n (λ g. alike g fate.Cancelled) x) zs
+      , total-plus (such n (λ g. alike g fate.Refused)) (such n (λ g. alike g fate.Cancelled)) zs)
+
+  return-endings-are : (n : ℕ) → return-endings h n ≡ total (return-ending n) zs
+  return-endings-are n =
+      omega
+      (arith
+      , i .counted .legs n return
+      , total-plus (such n (has return)) (such n (λ g. alike g fate.ReturnRefused)) zs)
+
+  once-of : (n : ℕ) (e : Leg) → times (h .journal) n e ≤ 1
+  once-of n e = omega (arith, i .counted .legs n e, total-every (such n (has e)) (numbered n) zs (such-le n (has e)), known-once n)
+
+  never-two-of : (n : ℕ) → endings h n ≤ 1
+  never-two-of n = omega (arith, endings-are n, total-every (ending n) (numbered n) zs (ending-le n), known-once n)
+
+  return-never-two-of : (n : ℕ) → return-endings h n ≤ 1
+  return-never-two-of n =
+      omega (arith, return-endings-are n, total-every (return-ending n) (numbered n) zs (return-ending-le n), known-once n)
+
+  decided-one : (x : Instruction) → ((f : Instruction → ℕ) → f x ≤ total f zs) × Punctual sd (x .order) (x .fate)
+      → day-closed sd (x .order .«value_date» .number) ≡ true → endings h (principal x) ≡ 1
+  decided-one x m c =
+      let n = principal x in
+      let d = value (x .order) in
+      omega
+      (arith
+      , never-two-of n
+      , endings-are n
+      , ends-or-joins sd x c (m .1)
+      , m .0 (ending n)
+      , m .0 (joining n (on-value d))
+      , i .counted .led n (on-value d) (value-shared d)
+      , total-le (leading n (on-value d)) (ending n) zs (all-weaker (λ y. Punctual sd (y .order) (y .fate)) (λ y. leading n (on-value d) y ≤ ending n y) (λ y p. lead-ends sd d n y c p) zs all-punctual))
+
+  return-decided-one : (x : Instruction) → ((f : Instruction → ℕ) → f x ≤ total f zs) × Punctual sd (x .order) (x .fate)
+      → (d : Date) → x .order .«return_date» ≡ Some d → day-closed sd (d .number) ≡ true
+      → times (h .journal) (principal x) first ≡ 1 → return-endings h (principal x) ≡ 1
+  return-decided-one x m d q c one =
+      let n = principal x in
+      let t = on-return (d .number) in
+      omega
+      (arith
+      , return-never-two-of n
+      , return-endings-are n
+      , i .counted .legs n first
+      , known-once n
+      , return-or-joins d x q
+      , m .0 (such n (λ f. not (leads f)))
+      , m .0 (leading n t)
+      , m .0 (joining n t)
+      , i .counted .led n t (return-shared (d .number))
+      , total-every (λ y. such n (λ f. not (leads f)) y + such n (has first) y) (numbered n) zs (led-or-not n)
+      , total-plus (such n (λ f. not (leads f))) (such n (has first)) zs
+      , total-le (λ y. leading n t y + such n (has first) y) (λ y. numbered n y + return-ending n y) zs
+        (all-weaker (λ y. Punctual sd (y .order) (y .fate)) (λ y. leading n t y + such n (has first) y ≤ numbered n y + return-ending n y) (λ y p. return-ends sd d n y c p) zs all-punctual)
+      , total-plus (leading n t) (such n (has first)) zs
+      , total-plus (numbered n) (return-ending n) zs)
+
+  members : All (λ x. ((f : Instruction → ℕ) → f x ≤ total f zs) × Punctual sd (x .order) (x .fate)) zs
+  members =
+      all-both (λ (x : Instruction). (f : Instruction → ℕ) → f x ≤ total f zs) (λ x. Punctual sd (x .order) (x .fate)) zs (member-le zs) all-punctual
+
+  ended-of : Sensible s → Ended-past s h
+  ended-of sense =
+      record
+        { once = once-of
+        ; remembered = i .counted .known
+        ; never-two = never-two-of
+        ; decided = all-weaker _ _ decided-one zs members
+        ; return-never-two = return-never-two-of
+        ; return-decided = all-weaker _ _ return-decided-one zs members
+        ; stays = λ c. each-goes s sense h i c .1
+        }
+
+-- every list of calls
+pub ended : (s : Start) → Sensible s → (cs : List Call) → Ended-past s (history s cs)
+ended s sense cs = ended-of s (history s cs) (ends s sense cs) sense
