@@ -107,12 +107,20 @@ effect-append xs ys xs′ ys′ us vs a b =
         , total-append (such n (λ g. alike g f)) ys ys′)
       }
 
--- a change of fate that settles nothing and joins nothing
-pub record Calm (f g : Fate) : Type 0 where
-  pub legs : (e : Leg) → has e g ≡ has e f
-  pub joined : (n : ℕ) → joins n g ≡ joins n f
-  pub leading : leads f ≡ true → leads g ≡ true
-  pub stays : (k : Fate) → is-final k ≡ true → alike f k ≡ true → alike g k ≡ true
+-- whether a change of fate settles that leg
+abbrev is-settled : Option Leg → Leg → Bool
+is-settled None e = false
+is-settled (Some l) e = same-leg l e
+
+-- a change of fate that joins nothing, and settles nothing or one leg
+record Turn (f g : Fate) (l : Option Leg) : Type 0 where
+  legs : (v : Bool) (e : Leg) → one-if (v && has e g) ≡ one-if (v && has e f) + one-if (v && is-settled l e)
+  joined : (n : ℕ) → joins n g ≡ joins n f
+  leading : leads f ≡ true → leads g ≡ true
+  stays : (k : Fate) → is-final k ≡ true → alike f k ≡ true → alike g k ≡ true
+
+abbrev Calm : Fate → Fate → Type 0
+Calm f g = Turn f g None
 
 one-same : (v a b : Bool) → a ≡ b → one-if (v && a) ≡ one-if (v && b)
 one-same v a b e = ap {B = ℕ} (λ w. one-if (v && w)) e
@@ -123,11 +131,12 @@ one-le v a b h = grind arith
 lead-le : (v a b t : Bool) → (a ≡ true → b ≡ true) → one-if (v && (a && t)) ≤ one-if (v && (b && t))
 lead-le v a b t h = grind arith
 
-pub effect-one : (i : Instruction) (g : Fate) (c : Option Refusal) → Calm (i .fate) g → Effect (i ∷ []) (turned i g c ∷ []) []
-effect-one i g c h =
+effect-turn : (i : Instruction) (g : Fate) (c : Option Refusal) (l : Option Leg) (vs : List Movement) → Turn (i .fate) g l
+    → ((n : ℕ) (e : Leg) → times vs n e ≡ one-if (has-serial n i && is-settled l e)) → Effect (i ∷ []) (turned i g c ∷ []) vs
+effect-turn i g c l vs h m =
     record
       { known = λ n. refl
-      ; legs = λ n e. omega (arith, one-same (has-serial n i) (has e g) (has e (i .fate)) (h .legs e))
+      ; legs = λ n e. omega (arith, h .legs (has-serial n i) e, m n e)
       ; led = λ n t _.
         omega
         (arith
@@ -136,37 +145,43 @@ effect-one i g c h =
       ; stays = λ n f k. omega (arith, one-le (has-serial n i) (alike (i .fate) f) (alike g f) (h .stays f k))
       }
 
-pub calm-none : (f : Fate) → Calm f f
-calm-none f = record { legs = λ e. refl; joined = λ n. refl; leading = λ h. h; stays = λ k h a. a }
+effect-one : (i : Instruction) (g : Fate) (c : Option Refusal) → Calm (i .fate) g → Effect (i ∷ []) (turned i g c ∷ []) []
+effect-one i g c h = effect-turn i g c None [] h (λ n e. nothing (has-serial n i))
+  where
+    nothing : (v : Bool) → 0 ≡ one-if (v && false)
+    nothing v = grind arith
+
+calm-none : (f : Fate) → Calm f f
+calm-none f = record { legs = λ v e. grind arith; joined = λ n. refl; leading = λ h. h; stays = λ k h a. a }
 
 calm-refused : (f : Fate) → alike f fate.Unmatched || alike f fate.Matched ≡ true → Calm f fate.Refused
 calm-refused f h =
-    record { legs = λ e. grind arith; joined = λ n. grind arith; leading = λ x. refl; stays = λ k x a. grind arith }
+    record { legs = λ v e. grind arith; joined = λ n. grind arith; leading = λ x. refl; stays = λ k x a. grind arith }
 
 calm-return-refused : (f : Fate) → alike f fate.RepoOut ≡ true → Calm f fate.ReturnRefused
 calm-return-refused f h =
-    record { legs = λ e. grind arith; joined = λ n. grind arith; leading = λ x. refl; stays = λ k x a. grind arith }
+    record { legs = λ v e. grind arith; joined = λ n. grind arith; leading = λ x. refl; stays = λ k x a. grind arith }
 
 calm-cancelled : (f : Fate) → alike f fate.Kept || alike f fate.Unmatched ≡ true → Calm f fate.Cancelled
 calm-cancelled f h =
-    record { legs = λ e. grind arith; joined = λ n. grind arith; leading = λ x. grind arith; stays = λ k x a. grind arith }
+    record { legs = λ v e. grind arith; joined = λ n. grind arith; leading = λ x. grind arith; stays = λ k x a. grind arith }
 
 calm-matched : (f : Fate) → alike f fate.Unmatched ≡ true → Calm f fate.Matched
 calm-matched f h =
-    record { legs = λ e. grind arith; joined = λ n. grind arith; leading = λ x. refl; stays = λ k x a. grind arith }
+    record { legs = λ v e. grind arith; joined = λ n. grind arith; leading = λ x. refl; stays = λ k x a. grind arith }
 
 -- a kept one arrives alone
 calm-arrived : (f g : Fate) → alike f fate.Kept ≡ true → (alike g fate.Kept || (alike g fate.Unmatched || alike g fate.Matched)) ≡ true → Calm f g
 calm-arrived f g h k =
-    record { legs = λ e. grind arith; joined = λ n. grind arith; leading = λ x. grind arith; stays = λ k x a. grind arith }
+    record { legs = λ v e. grind arith; joined = λ n. grind arith; leading = λ x. grind arith; stays = λ k x a. grind arith }
 
 -- cancelling and closing change fates one by one
-pub effect-map : (f : Instruction → Instruction) → ((i : Instruction) → Effect (i ∷ []) (f i ∷ []) []) → (xs : List Instruction) → Effect xs (map f xs) []
+effect-map : (f : Instruction → Instruction) → ((i : Instruction) → Effect (i ∷ []) (f i ∷ []) []) → (xs : List Instruction) → Effect xs (map f xs) []
 effect-map f h [] = effect-none []
 effect-map f h (x ∷ xs) = effect-append (x ∷ []) (f x ∷ []) xs (map f xs) [] [] (h x) (effect-map f h xs)
 
 -- what may be cancelled is kept or unmatched
-pub cancel-fate : (p n : ℕ) (i : Instruction) → may-cancel p n i ≡ true → alike (i .fate) fate.Kept || alike (i .fate) fate.Unmatched ≡ true
+cancel-fate : (p n : ℕ) (i : Instruction) → may-cancel p n i ≡ true → alike (i .fate) fate.Kept || alike (i .fate) fate.Unmatched ≡ true
 cancel-fate p n i e =
     and-parts
     (eqb (i .serial) n && eqb (sender-of (i .order) (i .order .sender)) p)
@@ -349,38 +364,22 @@ wake-all-effect d xs (i ∷ is) =
      (effect-append (xs ++ i ∷ []) (wake d xs i) is is [] [] (wake-effect d xs i) (effect-none is))
      (wake-all-effect d (wake d xs i) is))
 
--- a change of fate that settles a leg
-record Settling (f g : Fate) (l : Leg) : Type 0 where
-  legs : (v : Bool) (e : Leg) → one-if (v && has e g) ≡ one-if (v && has e f) + one-if (v && same-leg l e)
-  joined : (n : ℕ) → joins n g ≡ joins n f
-  leading : leads f ≡ true → leads g ≡ true
-  stays : (k : Fate) → is-final k ≡ true → alike f k ≡ true → alike g k ≡ true
-
-settling-whole : (f : Fate) → alike f fate.Matched ≡ true → Settling f fate.Settled first
+-- changes of fate that settle a leg
+settling-whole : (f : Fate) → alike f fate.Matched ≡ true → Turn f fate.Settled (Some first)
 settling-whole f h =
     record { legs = λ v e. grind arith; joined = λ n. grind arith; leading = λ x. refl; stays = λ k x a. grind arith }
 
-settling-out : (f : Fate) → alike f fate.Matched ≡ true → Settling f fate.RepoOut first
+settling-out : (f : Fate) → alike f fate.Matched ≡ true → Turn f fate.RepoOut (Some first)
 settling-out f h =
     record { legs = λ v e. grind arith; joined = λ n. grind arith; leading = λ x. refl; stays = λ k x a. grind arith }
 
-settling-back : (f : Fate) → alike f fate.RepoOut ≡ true → Settling f fate.RepoBack return
+settling-back : (f : Fate) → alike f fate.RepoOut ≡ true → Turn f fate.RepoBack (Some return)
 settling-back f h =
     record { legs = λ v e. grind arith; joined = λ n. grind arith; leading = λ x. refl; stays = λ k x a. grind arith }
 
-effect-settling : (st : Setting) (d : ℕ) (i : Instruction) (g : Fate) (c : Option Refusal) (l : Leg) → Settling (i .fate) g l
+effect-leg : (st : Setting) (d : ℕ) (i : Instruction) (g : Fate) (c : Option Refusal) (l : Leg) → Turn (i .fate) g (Some l)
     → Effect (i ∷ []) (turned i g c ∷ []) (leg st d i l ∷ [])
-effect-settling st d i g c l h =
-    record
-      { known = λ n. refl
-      ; legs = λ n e. omega (arith, h .legs (has-serial n i) e)
-      ; led = λ n t _.
-        omega
-        (arith
-        , ap {B = ℕ} (λ w. one-if (w && t (i .order))) (h .joined n)
-        , lead-le (has-serial n i) (leads (i .fate)) (leads g) (t (i .order)) (h .leading))
-      ; stays = λ n f k. omega (arith, one-le (has-serial n i) (alike (i .fate) f) (alike g f) (h .stays f k))
-      }
+effect-leg st d i g c l h = effect-turn i g c (Some l) (leg st d i l ∷ []) h (λ n e. omega arith)
 
 -- a leg that is due is a matched one's first, or the return of a repo that is out until that day
 abbrev pub Is-due : ℕ → Order → Fate → Option Leg → Type 0
@@ -388,7 +387,7 @@ Is-due d o f None = Unit {0}
 Is-due d o f (Some first) = alike f fate.Matched ≡ true
 Is-due d o f (Some return) = alike f fate.RepoOut && is-day d (o .«return_date») ≡ true
 
-pub is-due : (d : ℕ) (i : Instruction) → Is-due d (i .order) (i .fate) (due d i)
+is-due : (d : ℕ) (i : Instruction) → Is-due d (i .order) (i .fate) (due d i)
 is-due d i =
     cond-both
     (alike (i .fate) fate.Matched)
@@ -422,10 +421,10 @@ try-both st d bs a i P none late done = go (due d i) (is-due d i)
 
 settled-effect : (st : Setting) (d : ℕ) (i : Instruction) (l : Leg) (r : Option Date) → Is-due d (i .order) (i .fate) (Some l)
     → Effect (i ∷ []) (settled-one i l r ∷ []) (leg st d i l ∷ [])
-settled-effect st d i first None h = effect-settling st d i fate.Settled (i .cause) first (settling-whole (i .fate) h)
-settled-effect st d i first (Some e) h = effect-settling st d i fate.RepoOut None first (settling-out (i .fate) h)
+settled-effect st d i first None h = effect-leg st d i fate.Settled (i .cause) first (settling-whole (i .fate) h)
+settled-effect st d i first (Some e) h = effect-leg st d i fate.RepoOut None first (settling-out (i .fate) h)
 settled-effect st d i return r h =
-    effect-settling st d i fate.RepoBack (i .cause) return
+    effect-leg st d i fate.RepoBack (i .cause) return
     (settling-back (i .fate) (and-parts (alike (i .fate) fate.RepoOut) (is-day d (i .order .«return_date»)) h .0))
 
 try-effect : (st : Setting) (d : ℕ) (bs : List Blocking) (a : Amounts) (i : Instruction)
