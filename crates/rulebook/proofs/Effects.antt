@@ -1,15 +1,14 @@
 -- What each call does to the sums over accepted instructions.
-use mathlib.Core.Path.{_≡_, refl, ap, sym, subst, _∙_}
+use mathlib.Core.Path.{_≡_, refl, ap, _∙_}
 use mathlib.Core.List.{List, [], _∷_, _++_, map}
-use mathlib.Core.Bool.{Bool, true, false, cond, not, _&&_, _||_}
+use mathlib.Core.Bool.{Bool, true, false, cond, _&&_, _||_}
 use Prim.Native.Nat.{ℕ, _+_, _≤_, _<_}
 use native.Mathlib.Omega.{arith}
 use lib.Dec.{eqb, leb}
 use Rattle.std.specs.declared.option.Option.{Option}
 use Rattle.std.specs.declared.option.Option.the-variants.{Some, None}
 use Rattle.std.proofs.shelf.Lists.{append-assoc, append-nil}
-use Rattle.std.proofs.shelf.Tests.{cond-both, and-parts, or-left, or-right}
-use Rattle.std.proofs.shelf.Ways.{tells}
+use Rattle.std.proofs.shelf.Tests.{cond-both, and-parts, or-left, or-right, leb-false}
 use Rattle.refusals.specs.declared.Refusal.{Refusal}
 use Rattle.refusals.specs.declared.Refusal.the-variants.{NominalShort, MoneyShort, NoPartner}
 use Rattle.calendar.specs.declared.Date.{Date}
@@ -202,30 +201,39 @@ cancel-effect p n xs = effect-map (λ i. cond (may-cancel p n i) (turned i fate.
         (λ e. effect-one i fate.Cancelled (i .cause) (calm-cancelled (i .fate) (cancel-fate p n i e)))
         (λ _. effect-none (i ∷ []))
 
+-- closing refuses an unmatched one, a matched one, and a return that is due; the rest stays
+pub ended-both : (d : ℕ) (i : Instruction) (P : Instruction → Type 0)
+    → (alike (i .fate) fate.Unmatched ≡ true → P (turned i fate.Refused (Some NoPartner)))
+    → (alike (i .fate) fate.Matched ≡ true → P (turned i fate.Refused (i .cause)))
+    → (alike (i .fate) fate.RepoOut ≡ true → P (turned i fate.ReturnRefused (i .cause)))
+    → (alike (i .fate) fate.Unmatched ≡ false → alike (i .fate) fate.Matched ≡ false
+      → alike (i .fate) fate.RepoOut && is-day d (i .order .«return_date») ≡ false → P i)
+    → P (ended d i)
+ended-both d i P un ma re other =
+    cond-both
+    (alike (i .fate) fate.Unmatched)
+    (turned i fate.Refused (Some NoPartner))
+    (cond (alike (i .fate) fate.Matched) (turned i fate.Refused (i .cause)) last)
+    P
+    un
+    (λ u. cond-both (alike (i .fate) fate.Matched) (turned i fate.Refused (i .cause)) last P ma
+      (λ m. cond-both (alike (i .fate) fate.RepoOut && is-day d (i .order .«return_date»)) (turned i fate.ReturnRefused (i .cause)) i P
+        (λ e. re (and-parts (alike (i .fate) fate.RepoOut) (is-day d (i .order .«return_date»)) e .0))
+        (λ r. other u m r)))
+  where
+    last : Instruction
+    last = cond (alike (i .fate) fate.RepoOut && is-day d (i .order .«return_date»)) (turned i fate.ReturnRefused (i .cause)) i
+
 pub end-effect : (d : ℕ) (xs : List Instruction) → Effect xs (ended-all d xs) []
 end-effect d xs = effect-map (ended d) one xs
   where
     one : (i : Instruction) → Effect (i ∷ []) (ended d i ∷ []) []
     one i =
-        cond-both
-        (alike (i .fate) fate.Unmatched)
-        (turned i fate.Refused (Some NoPartner))
-        (cond (alike (i .fate) fate.Matched) (turned i fate.Refused (i .cause)) (cond (alike (i .fate) fate.RepoOut && is-day d (i .order .«return_date»)) (turned i fate.ReturnRefused (i .cause)) i))
-        (λ j. Effect (i ∷ []) (j ∷ []) [])
+        ended-both d i (λ j. Effect (i ∷ []) (j ∷ []) [])
         (λ e. effect-one i fate.Refused (Some NoPartner) (calm-refused (i .fate) (or-left (alike (i .fate) fate.Unmatched) (alike (i .fate) fate.Matched) e)))
-        (λ _. cond-both
-          (alike (i .fate) fate.Matched)
-          (turned i fate.Refused (i .cause))
-          (cond (alike (i .fate) fate.RepoOut && is-day d (i .order .«return_date»)) (turned i fate.ReturnRefused (i .cause)) i)
-          (λ j. Effect (i ∷ []) (j ∷ []) [])
-          (λ e. effect-one i fate.Refused (i .cause) (calm-refused (i .fate) (or-right (alike (i .fate) fate.Unmatched) (alike (i .fate) fate.Matched) e)))
-          (λ _. cond-both
-            (alike (i .fate) fate.RepoOut && is-day d (i .order .«return_date»))
-            (turned i fate.ReturnRefused (i .cause))
-            i
-            (λ j. Effect (i ∷ []) (j ∷ []) [])
-            (λ e. effect-one i fate.ReturnRefused (i .cause) (calm-return-refused (i .fate) (and-parts (alike (i .fate) fate.RepoOut) (is-day d (i .order .«return_date»)) e .0)))
-            (λ _. effect-none (i ∷ []))))
+        (λ e. effect-one i fate.Refused (i .cause) (calm-refused (i .fate) (or-right (alike (i .fate) fate.Unmatched) (alike (i .fate) fate.Matched) e)))
+        (λ e. effect-one i fate.ReturnRefused (i .cause) (calm-return-refused (i .fate) e))
+        (λ _ _ _. effect-none (i ∷ []))
 
 -- 1 if that serial was found for an order that passes
 abbrev found-as : ℕ → Bool → Option ℕ → ℕ
@@ -321,20 +329,28 @@ joined-behind xs ys i s k p =
     not-final : (f g : Fate) → alike f fate.Kept ≡ true → is-final g ≡ true → alike f g ≡ true → alike (fate.Joined s) g ≡ true
     not-final f g h x a = grind arith
 
-pub arrive-effect : (d : ℕ) (xs : List Instruction) (i : Instruction) → alike (i .fate) fate.Kept ≡ true → Effect (xs ++ i ∷ []) (arrive d xs i) []
-arrive-effect d xs i k =
-    cond-both
-    (leb (i .order .«value_date» .number) d)
-    (admit xs i)
-    (xs ++ turned i fate.Kept None ∷ [])
-    (λ ys. Effect (xs ++ i ∷ []) ys [])
+-- one that arrives is matched alone, seeks its partner, or is kept until its value date
+pub arrive-both : (d : ℕ) (xs : List Instruction) (i : Instruction) (P : List Instruction → Type 0)
+    → P (xs ++ turned i fate.Matched None ∷ [])
+    → P (pair-up (i .order) xs .0 ++ met i (pair-up (i .order) xs .1) ∷ [])
+    → (d < i .order .«value_date» .number → P (xs ++ turned i fate.Kept None ∷ []))
+    → P (arrive d xs i)
+arrive-both d xs i P alone seeks later =
+    cond-both (leb (i .order .«value_date» .number) d) (admit xs i) (xs ++ turned i fate.Kept None ∷ []) P
     (λ _. cond-both
       (is-inside (i .order))
       (xs ++ turned i fate.Matched None ∷ [])
       (pair-up (i .order) xs .0 ++ met i (pair-up (i .order) xs .1) ∷ [])
-      (λ ys. Effect (xs ++ i ∷ []) ys [])
-      (λ _. effect-behind xs xs i fate.Matched (effect-none xs) (calm-arrived (i .fate) fate.Matched k refl))
-      (λ _. by-found (pair-up (i .order) xs .0) (pair-up (i .order) xs .1) (paired (i .order) xs)))
+      P
+      (λ _. alone)
+      (λ _. seeks))
+    (λ e. later (leb-false (i .order .«value_date» .number) d e))
+
+pub arrive-effect : (d : ℕ) (xs : List Instruction) (i : Instruction) → alike (i .fate) fate.Kept ≡ true → Effect (xs ++ i ∷ []) (arrive d xs i) []
+arrive-effect d xs i k =
+    arrive-both d xs i (λ ys. Effect (xs ++ i ∷ []) ys [])
+    (effect-behind xs xs i fate.Matched (effect-none xs) (calm-arrived (i .fate) fate.Matched k refl))
+    (by-found (pair-up (i .order) xs .0) (pair-up (i .order) xs .1) (paired (i .order) xs))
     (λ _. effect-behind xs xs i fate.Kept (effect-none xs) (calm-arrived (i .fate) fate.Kept k refl))
   where
     by-found : (ys : List Instruction) (o : Option ℕ) → Paired (i .order) xs (ys, o) → Effect (xs ++ i ∷ []) (ys ++ met i o ∷ []) []

@@ -11,12 +11,12 @@ use Rattle.std.specs.declared.result.Result.the-variants.{Ok, Err}
 use Rattle.std.specs.shelf.Lists.{All}
 use Rattle.std.proofs.shelf.Lists.{append-nil}
 use Rattle.std.proofs.shelf.Elements.{all-append, all-weaker}
-use Rattle.std.proofs.shelf.Tests.{cond-both, and-parts, both-ways, leb-true, eqb-true, eq-eqb, ltb-true}
+use Rattle.std.proofs.shelf.Tests.{cond-both, and-parts, both-ways, eqb-true, eq-eqb, ltb-true}
 use Rattle.std.proofs.shelf.Ways.{tells}
 use Rattle.refusals.specs.declared.Refusal.{Refusal}
 use Rattle.refusals.specs.declared.Refusal.the-variants.{WrongState}
 use Rattle.calendar.specs.declared.Date.{Date}
-use Rattle.calendar.specs.Days.{passing, is-business}
+use Rattle.calendar.specs.Days.{is-business}
 use Rattle.rulebook.specs.declared.Order.{Order}
 use Rattle.rulebook.specs.declared.Fate.{Fate}
 use Rattle.rulebook.specs.declared.Fate.the-variants as fate
@@ -29,12 +29,12 @@ use Rattle.rulebook.specs.Words.{one-if, total, same-side, Leg, first, return,
 use Rattle.rulebook.specs.Checks.{Check, verdict, today, is-shut, is-on-a-day, matures, return-date-fits, dates-fit, has-serial}
 use Rattle.rulebook.specs.Matching.{arrive, wake-all, leaves, leavers, stayers, other, same-sender, same-date, same-option, same-order, counter, joins, cancelled-in}
 use Rattle.rulebook.specs.Rounds.{is-day, moved-to, is-leg-refused, ended-all}
-use Rattle.rulebook.specs.Rules.{Outcome, refuses, does, with-list, opens, with-issue, placing, incoming, with-order, with-blocking, without-blocking, rounded, legs-done, closing-list, redeeming, shuts, close-work, checks, work, ruled, rule, book-by, moves-by}
+use Rattle.rulebook.specs.Rules.{Outcome, refuses, does, with-list, opens, with-issue, placing, incoming, with-order, with-blocking, without-blocking, rounded, legs-done, closing-list, redeeming, shuts, close-work, checks, work, ruled, book-by, moves-by}
 use Rattle.rulebook.specs.Journal.{Journal, times, reads, setting-of, Past, new-past, accepted, leaving, outcome, step, history-from, history}
 use Rattle.rulebook.specs.Laws.{Rises-from, Sensible, day-closed, with-serial, with-fate, endings, return-endings, Stays}
 use Rattle.rulebook.proofs.Totals.{total-append, total-le, total-split, member-le, all-both, all-passing}
-use Rattle.rulebook.proofs.Effects.{has, leads, is-final, numbered, such, joining, leading, Shared, Effect, effect-none, effect-then, effect-append, cancel-effect, end-effect, arrive-effect, wake-all-effect, round-effect}
-use Rattle.rulebook.proofs.Punctual.{is-waiting, value, Punctual, Fit, Stands, Well, Over, Comes, opening-punctual, arrive-well, wake-all-well, cancel-well, round-well, end-well, rest-well, leavers-over}
+use Rattle.rulebook.proofs.Effects.{has, leads, numbered, such, joining, leading, Shared, Effect, effect-none, effect-then, effect-append, cancel-effect, end-effect, arrive-effect, wake-all-effect, round-effect}
+use Rattle.rulebook.proofs.Punctual.{is-waiting, value, Punctual, Well, Over, Comes, opening-punctual, arrive-well, wake-all-well, cancel-well, round-well, end-well, rest-well, leavers-over}
 
 -- one lemma ends all checks of a call
 abbrev Passes : List Check → Type 0

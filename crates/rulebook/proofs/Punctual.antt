@@ -1,19 +1,17 @@
 -- No instruction waits past its value date, no repo is out past its return date.
-use mathlib.Core.Path.{_≡_, refl, ap, sym, subst, _∙_}
-use mathlib.Core.List.{List, [], _∷_, _++_, map}
+use mathlib.Core.Path.{_≡_, refl}
+use mathlib.Core.List.{List, [], _∷_, _++_}
 use mathlib.Core.Bool.{Bool, true, false, cond, not, _&&_, _||_}
-use mathlib.Core.Logic.{_⊎_, inl, inr, ⊎-elim}
+use mathlib.Core.Logic.{⊎-elim}
 use Prim.Native.Nat.{ℕ, _+_, _≤_, _<_}
 use native.Mathlib.Omega.{arith}
-use lib.Dec.{eqb, leb, ltb}
+use lib.Dec.{eqb, leb}
 use Rattle.std.specs.declared.option.Option.{Option}
 use Rattle.std.specs.declared.option.Option.the-variants.{Some, None}
 use Rattle.std.specs.shelf.Lists.{All}
 use Rattle.std.proofs.shelf.Elements.{all-push, all-weaker, all-map}
 use Rattle.std.proofs.shelf.Tests.{cond-both, and-parts, and-right, or-cases, or-from, or-right, not-true, eqb-true, leb-false, le-ltb, lt-leb, both-ways}
 use Rattle.std.proofs.shelf.Ways.{tells}
-use Rattle.refusals.specs.declared.Refusal.{Refusal}
-use Rattle.refusals.specs.declared.Refusal.the-variants.{NoPartner}
 use Rattle.calendar.specs.declared.Date.{Date}
 use Rattle.calendar.specs.Days.{passing, is-business, first-from, next-after}
 use Rattle.rulebook.specs.declared.Order.{Order}
@@ -21,12 +19,11 @@ use Rattle.rulebook.specs.declared.Fate.{Fate}
 use Rattle.rulebook.specs.declared.Fate.the-variants as fate
 use Rattle.rulebook.specs.States.{shut, on-a-day, on-no-day, Standing, opened-on, opened, closed}
 use Rattle.rulebook.specs.Words.{some-passes, Leg, first, return, Amounts, afters, Blocking, Instruction, turned, alike, Setting}
-use Rattle.rulebook.specs.Checks.{is-inside, may-cancel}
-use Rattle.rulebook.specs.Matching.{same-order, counter, is-partner, pair-up, met, admit, arrive, wake, wake-all, has-ended, joins, leaves, leavers, stayers, cancelled-in}
-use Rattle.rulebook.specs.Rounds.{is-day, Try, idle, waits, settles, try, settled-one, tried, try-moves, rounds, ended, ended-all}
+use Rattle.rulebook.specs.Checks.{may-cancel}
+use Rattle.rulebook.specs.Matching.{same-order, counter, is-partner, pair-up, met, arrive, wake, wake-all, has-ended, joins, leaves, cancelled-in}
+use Rattle.rulebook.specs.Rounds.{is-day, waits, settles, try, settled-one, tried, try-moves, rounds, ended, ended-all}
 use Rattle.rulebook.specs.Laws.{Rises-from, day-closed}
-use Rattle.rulebook.proofs.Totals.{all-passing}
-use Rattle.rulebook.proofs.Effects.{Is-due, try-both}
+use Rattle.rulebook.proofs.Effects.{ended-both, arrive-both, Is-due, try-both}
 
 -- kept, unmatched or matched: neither settled, refused, cancelled nor joined
 abbrev pub is-waiting : Fate → Bool
@@ -167,19 +164,10 @@ pair-well days sd o (x ∷ xs) a =
 pub arrive-well : (days : List ℕ) (sd : Standing) (xs : List Instruction) (i : Instruction) → alike (i .fate) fate.Kept ≡ true
     → All (Well days sd) xs → Comes days sd i → All (Well days sd) (arrive (sd .day) xs i)
 arrive-well days sd xs i k a h =
-    cond-both
-    (leb (value (i .order)) (sd .day))
-    (admit xs i)
-    (xs ++ turned i fate.Kept None ∷ [])
-    (All (Well days sd))
-    (λ _. cond-both
-      (is-inside (i .order))
-      (xs ++ turned i fate.Matched None ∷ [])
-      (pair-up (i .order) xs .0 ++ met i (pair-up (i .order) xs .1) ∷ [])
-      (All (Well days sd))
-      (λ _. all-push (Well days sd) xs (turned i fate.Matched None) a (as-one fate.Matched refl (λ e. never e)))
-      (λ _. by-found (pair-up (i .order) xs .0) (pair-up (i .order) xs .1) (pair-well days sd (i .order) xs a)))
-    (λ e. all-push (Well days sd) xs (turned i fate.Kept None) a (as-one fate.Kept refl (λ _. leb-false (value (i .order)) (sd .day) e)))
+    arrive-both (sd .day) xs i (All (Well days sd))
+    (all-push (Well days sd) xs (turned i fate.Matched None) a (as-one fate.Matched refl (λ e. never e)))
+    (by-found (pair-up (i .order) xs .0) (pair-up (i .order) xs .1) (pair-well days sd (i .order) xs a))
+    (λ l. all-push (Well days sd) xs (turned i fate.Kept None) a (as-one fate.Kept refl (λ _. l)))
   where
     as-one : (g : Fate) → (alike g fate.Kept || (alike g fate.Unmatched || alike g fate.Matched)) ≡ true → (alike g fate.Kept ≡ true → sd .day < value (i .order))
         → Stands days sd (i .order) g
@@ -267,35 +255,21 @@ round-well days sd st bs (i ∷ is) a w =
 -- after closing on a day nothing waits for it
 end-one : (days : List ℕ) (sd : Standing) → eqb (sd .state) on-a-day ≡ true → (i : Instruction) → Well days sd i → Well days (closed sd) (ended (sd .day) i)
 end-one days sd s i h =
-    cond-both
-    (alike (i .fate) fate.Unmatched)
-    (turned i fate.Refused (Some NoPartner))
-    (cond (alike (i .fate) fate.Matched) (turned i fate.Refused (i .cause)) (cond (alike (i .fate) fate.RepoOut && is-day (sd .day) (i .order .«return_date»)) (turned i fate.ReturnRefused (i .cause)) i))
-    (Well days (closed sd))
+    ended-both (sd .day) i (Well days (closed sd))
     (λ _. refused fate.Refused refl refl refl refl)
-    (λ u. cond-both
-      (alike (i .fate) fate.Matched)
-      (turned i fate.Refused (i .cause))
-      (cond (alike (i .fate) fate.RepoOut && is-day (sd .day) (i .order .«return_date»)) (turned i fate.ReturnRefused (i .cause)) i)
-      (Well days (closed sd))
-      (λ _. refused fate.Refused refl refl refl refl)
-      (λ m. cond-both
-        (alike (i .fate) fate.RepoOut && is-day (sd .day) (i .order .«return_date»))
-        (turned i fate.ReturnRefused (i .cause))
-        i
-        (Well days (closed sd))
-        (λ _. refused fate.ReturnRefused refl refl refl refl)
-        (λ r.
+    (λ _. refused fate.Refused refl refl refl refl)
+    (λ _. refused fate.ReturnRefused refl refl refl refl)
+    (λ u m r.
+      record
+        { fit = h .fit
+        ; punctual =
           record
-            { fit = h .fit
-            ; punctual =
-              record
-                { waiting = λ e. lt-leb (value (i .order)) (sd .day) (h .patient (only-kept (alike (i .fate) fate.Kept) (alike (i .fate) fate.Unmatched) (alike (i .fate) fate.Matched) e u m))
-                ; out = λ e d x. after-day (d .number) (h .punctual .out e d x) (not-day (alike (i .fate) fate.RepoOut) d (i .order .«return_date») e x r)
-                ; plain = h .punctual .plain
-                }
-            ; patient = h .patient
-            })))
+            { waiting = λ e. lt-leb (value (i .order)) (sd .day) (h .patient (only-kept (alike (i .fate) fate.Kept) (alike (i .fate) fate.Unmatched) (alike (i .fate) fate.Matched) e u m))
+            ; out = λ e d x. after-day (d .number) (h .punctual .out e d x) (not-day (alike (i .fate) fate.RepoOut) d (i .order .«return_date») e x r)
+            ; plain = h .punctual .plain
+            }
+        ; patient = h .patient
+        })
   where
     refused : (g : Fate) → is-waiting g ≡ false → alike g fate.RepoOut ≡ false → alike g fate.Settled ≡ false → alike g fate.Kept ≡ false → Stands days (closed sd) (i .order) g
     refused g a b c k =
