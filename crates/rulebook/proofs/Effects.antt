@@ -58,9 +58,9 @@ pub record Effect (xs ys : List Instruction) (vs : List Movement) : Type 0 where
   pub known : (n : ℕ) → total (numbered n) ys ≡ total (numbered n) xs
   pub legs : (n : ℕ) (e : Leg) → total (such n (has e)) ys ≡ total (such n (has e)) xs + times vs n e
   pub led : (n : ℕ) (t : Order → Bool) → Shared t
-    → total (joining n t) ys + total (leading n t) xs ≤ total (joining n t) xs + total (leading n t) ys
+      → total (joining n t) ys + total (leading n t) xs ≤ total (joining n t) xs + total (leading n t) ys
   pub stays : (n : ℕ) (f : Fate) → is-final f ≡ true
-    → total (such n (λ g. alike g f)) xs ≤ total (such n (λ g. alike g f)) ys
+      → total (such n (λ g. alike g f)) xs ≤ total (such n (λ g. alike g f)) ys
 
 pub effect-none : (xs : List Instruction) → Effect xs xs []
 effect-none xs =
@@ -68,43 +68,46 @@ effect-none xs =
 
 pub effect-then : (xs ys zs : List Instruction) (us vs : List Movement) → Effect xs ys us → Effect ys zs vs → Effect xs zs (us ++ vs)
 effect-then xs ys zs us vs a b =
-    record
-      { known = λ n. b .known n ∙ a .known n
-      ; legs = λ n e. omega (arith, a .legs n e, b .legs n e, total-append (is-leg n e) us vs)
-      ; led = λ n t h. omega (arith, a .led n t h, b .led n t h)
-      ; stays = λ n f h. omega (arith, a .stays n f h, b .stays n f h)
-      }
+    record {
+      known = λ n. b .known n ∙ a .known n;
+      legs = λ n e. omega (arith, a .legs n e, b .legs n e, total-append (is-leg n e) us vs);
+      led = λ n t h. omega (arith, a .led n t h, b .led n t h);
+      stays = λ n f h. omega (arith, a .stays n f h, b .stays n f h);
+    }
 
 pub effect-append : (xs ys xs′ ys′ : List Instruction) (us vs : List Movement) → Effect xs ys us → Effect xs′ ys′ vs
     → Effect (xs ++ xs′) (ys ++ ys′) (us ++ vs)
 effect-append xs ys xs′ ys′ us vs a b =
-    record
-      { known = λ n. omega (arith, a .known n, b .known n, total-append (numbered n) xs xs′, total-append (numbered n) ys ys′)
-      ; legs = λ n e.
-        omega
-        (arith
-        , a .legs n e
-        , b .legs n e
-        , total-append (is-leg n e) us vs
-        , total-append (such n (has e)) xs xs′
-        , total-append (such n (has e)) ys ys′)
-      ; led = λ n t h.
-        omega
-        (arith
-        , a .led n t h
-        , b .led n t h
-        , total-append (joining n t) xs xs′
-        , total-append (joining n t) ys ys′
-        , total-append (leading n t) xs xs′
-        , total-append (leading n t) ys ys′)
-      ; stays = λ n f h.
-        omega
-        (arith
-        , a .stays n f h
-        , b .stays n f h
-        , total-append (such n (λ g. alike g f)) xs xs′
-        , total-append (such n (λ g. alike g f)) ys ys′)
-      }
+    record {
+      known = λ n. omega (arith, a .known n, b .known n, total-append (numbered n) xs xs′, total-append (numbered n) ys ys′);
+      legs = λ n e.
+          omega (
+            arith,
+            a .legs n e,
+            b .legs n e,
+            total-append (is-leg n e) us vs,
+            total-append (such n (has e)) xs xs′,
+            total-append (such n (has e)) ys ys′,
+          );
+      led = λ n t h.
+          omega (
+            arith,
+            a .led n t h,
+            b .led n t h,
+            total-append (joining n t) xs xs′,
+            total-append (joining n t) ys ys′,
+            total-append (leading n t) xs xs′,
+            total-append (leading n t) ys ys′,
+          );
+      stays = λ n f h.
+          omega (
+            arith,
+            a .stays n f h,
+            b .stays n f h,
+            total-append (such n (λ g. alike g f)) xs xs′,
+            total-append (such n (λ g. alike g f)) ys ys′,
+          );
+    }
 
 -- whether a change of fate settles that leg
 abbrev is-settled : Option Leg → Leg → Bool
@@ -133,16 +136,17 @@ lead-le v a b t h = grind arith
 effect-turn : (i : Instruction) (g : Fate) (c : Option Refusal) (l : Option Leg) (vs : List Movement) → Turn (i .fate) g l
     → ((n : ℕ) (e : Leg) → times vs n e ≡ one-if (has-serial n i && is-settled l e)) → Effect (i ∷ []) (turned i g c ∷ []) vs
 effect-turn i g c l vs h m =
-    record
-      { known = λ n. refl
-      ; legs = λ n e. omega (arith, h .legs (has-serial n i) e, m n e)
-      ; led = λ n t _.
-        omega
-        (arith
-        , ap {B = ℕ} (λ w. one-if (w && t (i .order))) (h .joined n)
-        , lead-le (has-serial n i) (leads (i .fate)) (leads g) (t (i .order)) (h .leading))
-      ; stays = λ n f k. omega (arith, one-le (has-serial n i) (alike (i .fate) f) (alike g f) (h .stays f k))
-      }
+    record {
+      known = λ n. refl;
+      legs = λ n e. omega (arith, h .legs (has-serial n i) e, m n e);
+      led = λ n t _.
+          omega (
+            arith,
+            ap {B = ℕ} (λ w. one-if (w && t (i .order))) (h .joined n),
+            lead-le (has-serial n i) (leads (i .fate)) (leads g) (t (i .order)) (h .leading),
+          );
+      stays = λ n f k. omega (arith, one-le (has-serial n i) (alike (i .fate) f) (alike g f) (h .stays f k));
+    }
 
 effect-one : (i : Instruction) (g : Fate) (c : Option Refusal) → Calm (i .fate) g → Effect (i ∷ []) (turned i g c ∷ []) []
 effect-one i g c h = effect-turn i g c None [] h (λ n e. nothing (has-serial n i))
@@ -207,7 +211,7 @@ pub ended-both : (d : ℕ) (i : Instruction) (P : Instruction → Type 0)
     → (alike (i .fate) fate.Matched ≡ true → P (turned i fate.Refused (i .cause)))
     → (alike (i .fate) fate.RepoOut ≡ true → P (turned i fate.ReturnRefused (i .cause)))
     → (alike (i .fate) fate.Unmatched ≡ false → alike (i .fate) fate.Matched ≡ false
-      → alike (i .fate) fate.RepoOut && is-day d (i .order .«return_date») ≡ false → P i)
+    → alike (i .fate) fate.RepoOut && is-day d (i .order .«return_date») ≡ false → P i)
     → P (ended d i)
 ended-both d i P un ma re other =
     cond-both
@@ -217,9 +221,9 @@ ended-both d i P un ma re other =
     P
     un
     (λ u. cond-both (alike (i .fate) fate.Matched) (turned i fate.Refused (i .cause)) last P ma
-      (λ m. cond-both (alike (i .fate) fate.RepoOut && is-day d (i .order .«return_date»)) (turned i fate.ReturnRefused (i .cause)) i P
-        (λ e. re (and-parts (alike (i .fate) fate.RepoOut) (is-day d (i .order .«return_date»)) e .0))
-        (λ r. other u m r)))
+    (λ m. cond-both (alike (i .fate) fate.RepoOut && is-day d (i .order .«return_date»)) (turned i fate.ReturnRefused (i .cause)) i P
+    (λ e. re (and-parts (alike (i .fate) fate.RepoOut) (is-day d (i .order .«return_date»)) e .0))
+    (λ r. other u m r)))
   where
     last : Instruction
     last = cond (alike (i .fate) fate.RepoOut && is-day d (i .order .«return_date»)) (turned i fate.ReturnRefused (i .cause)) i
@@ -245,7 +249,7 @@ record Paired (o : Order) (xs : List Instruction) (r : List Instruction × Optio
   effect : Effect xs (r .0) []
   joined : (n : ℕ) (t : Order → Bool) → total (joining n t) (r .0) ≡ total (joining n t) xs
   leads-on : (n : ℕ) (t : Order → Bool) → Shared t
-    → total (leading n t) xs + found-as n (t o) (r .1) ≤ total (leading n t) (r .0)
+      → total (leading n t) xs + found-as n (t o) (r .1) ≤ total (leading n t) (r .0)
 
 paired : (o : Order) (xs : List Instruction) → Paired o xs (pair-up o xs)
 paired o [] = record { effect = effect-none []; joined = λ n t. refl; leads-on = λ n t h. omega arith }
@@ -256,23 +260,24 @@ paired o (x ∷ xs) =
     (x ∷ pair-up o xs .0, pair-up o xs .1)
     (Paired o (x ∷ xs))
     (λ e. let p = and-parts (alike (x .fate) fate.Unmatched) (same-order (x .order) (counter o)) e in
-      let u = p .0 in
-      let c = calm-matched (x .fate) u in
-      record
-        { effect = effect-append (x ∷ []) (turned x fate.Matched None ∷ []) xs xs [] [] (effect-one x fate.Matched None c) (effect-none xs)
-        ; joined = λ n t. omega (arith, ap {B = ℕ} (λ w. one-if (w && t (x .order))) (c .joined n))
-        ; leads-on = λ n t h.
-          omega
-          (arith
-          , no-lead n t u
-          , ap {B = ℕ} (λ w. one-if (has-serial n x && w)) (h (x .order) o (p .1)))
-        })
+    let u = p .0 in
+    let c = calm-matched (x .fate) u in
+    record {
+      effect = effect-append (x ∷ []) (turned x fate.Matched None ∷ []) xs xs [] [] (effect-one x fate.Matched None c) (effect-none xs);
+      joined = λ n t. omega (arith, ap {B = ℕ} (λ w. one-if (w && t (x .order))) (c .joined n));
+      leads-on = λ n t h.
+          omega (
+            arith,
+            no-lead n t u,
+            ap {B = ℕ} (λ w. one-if (has-serial n x && w)) (h (x .order) o (p .1)),
+          );
+    })
     (λ _. let r = paired o xs in
-      record
-        { effect = effect-append (x ∷ []) (x ∷ []) xs (pair-up o xs .0) [] [] (effect-none (x ∷ [])) (r .effect)
-        ; joined = λ n t. omega (arith, r .joined n t)
-        ; leads-on = λ n t h. omega (arith, r .leads-on n t h)
-        })
+    record {
+      effect = effect-append (x ∷ []) (x ∷ []) xs (pair-up o xs .0) [] [] (effect-none (x ∷ [])) (r .effect);
+      joined = λ n t. omega (arith, r .joined n t);
+      leads-on = λ n t h. omega (arith, r .leads-on n t h);
+    })
   where
     no-lead : (n : ℕ) (t : Order → Bool) → alike (x .fate) fate.Unmatched ≡ true → leading n t x ≡ 0
     no-lead n t u = go (x .fate) u
@@ -289,33 +294,36 @@ effect-behind xs ys i g e c = effect-append xs ys (i ∷ []) (turned i g None �
 joined-behind : (xs ys : List Instruction) (i : Instruction) (s : ℕ) → alike (i .fate) fate.Kept ≡ true → Paired (i .order) xs (ys, Some s)
     → Effect (xs ++ i ∷ []) (ys ++ turned i (fate.Joined s) None ∷ []) []
 joined-behind xs ys i s k p =
-    record
-      { known = λ n. omega (arith, p .effect .known n, total-push (numbered n) xs i, total-push (numbered n) ys j)
-      ; legs = λ n e.
-        omega
-        (arith
-        , p .effect .legs n e
-        , total-push (such n (has e)) xs i
-        , total-push (such n (has e)) ys j
-        , one-same (has-serial n i) (has e (fate.Joined s)) (has e (i .fate)) (no-legs e (i .fate) k))
-      ; led = λ n t h.
-        omega
-        (arith
-        , p .joined n t
-        , p .leads-on n t h
-        , total-push (joining n t) xs i
-        , total-push (joining n t) ys j
-        , total-push (leading n t) xs i
-        , total-push (leading n t) ys j
-        , no-lead n t (i .fate) k)
-      ; stays = λ n f h.
-        omega
-        (arith
-        , p .effect .stays n f h
-        , total-push (such n (λ g. alike g f)) xs i
-        , total-push (such n (λ g. alike g f)) ys j
-        , one-le (has-serial n i) (alike (i .fate) f) (alike (fate.Joined s) f) (not-final (i .fate) f k h))
-      }
+    record {
+      known = λ n. omega (arith, p .effect .known n, total-push (numbered n) xs i, total-push (numbered n) ys j);
+      legs = λ n e.
+          omega (
+            arith,
+            p .effect .legs n e,
+            total-push (such n (has e)) xs i,
+            total-push (such n (has e)) ys j,
+            one-same (has-serial n i) (has e (fate.Joined s)) (has e (i .fate)) (no-legs e (i .fate) k),
+          );
+      led = λ n t h.
+          omega (
+            arith,
+            p .joined n t,
+            p .leads-on n t h,
+            total-push (joining n t) xs i,
+            total-push (joining n t) ys j,
+            total-push (leading n t) xs i,
+            total-push (leading n t) ys j,
+            no-lead n t (i .fate) k,
+          );
+      stays = λ n f h.
+          omega (
+            arith,
+            p .effect .stays n f h,
+            total-push (such n (λ g. alike g f)) xs i,
+            total-push (such n (λ g. alike g f)) ys j,
+            one-le (has-serial n i) (alike (i .fate) f) (alike (fate.Joined s) f) (not-final (i .fate) f k h),
+          );
+    }
   where
     j : Instruction
     j = turned i (fate.Joined s) None
@@ -338,12 +346,12 @@ pub arrive-both : (d : ℕ) (xs : List Instruction) (i : Instruction) (P : List 
 arrive-both d xs i P alone seeks later =
     cond-both (leb (i .order .«value_date» .number) d) (admit xs i) (xs ++ turned i fate.Kept None ∷ []) P
     (λ _. cond-both
-      (is-inside (i .order))
-      (xs ++ turned i fate.Matched None ∷ [])
-      (pair-up (i .order) xs .0 ++ met i (pair-up (i .order) xs .1) ∷ [])
-      P
-      (λ _. alone)
-      (λ _. seeks))
+    (is-inside (i .order))
+    (xs ++ turned i fate.Matched None ∷ [])
+    (pair-up (i .order) xs .0 ++ met i (pair-up (i .order) xs .1) ∷ [])
+    P
+    (λ _. alone)
+    (λ _. seeks))
     (λ e. later (leb-false (i .order .«value_date» .number) d e))
 
 pub arrive-effect : (d : ℕ) (xs : List Instruction) (i : Instruction) → alike (i .fate) fate.Kept ≡ true → Effect (xs ++ i ∷ []) (arrive d xs i) []
@@ -372,13 +380,13 @@ wake-all-effect d xs [] = rw (append-nil xs) (effect-none xs)
 wake-all-effect d xs (i ∷ is) =
     rw (← append-assoc xs (i ∷ []) is)
     (effect-then
-     ((xs ++ i ∷ []) ++ is)
-     (wake d xs i ++ is)
-     (wake-all d (wake d xs i) is)
-     []
-     []
-     (effect-append (xs ++ i ∷ []) (wake d xs i) is is [] [] (wake-effect d xs i) (effect-none is))
-     (wake-all-effect d (wake d xs i) is))
+    ((xs ++ i ∷ []) ++ is)
+    (wake d xs i ++ is)
+    (wake-all d (wake d xs i) is)
+    []
+    []
+    (effect-append (xs ++ i ∷ []) (wake d xs i) is is [] [] (wake-effect d xs i) (effect-none is))
+    (wake-all-effect d (wake d xs i) is))
 
 -- changes of fate that settle a leg
 settling-whole : (f : Fate) → alike f fate.Matched ≡ true → Turn f fate.Settled (Some first)
@@ -412,12 +420,12 @@ is-due d i =
     (Is-due d (i .order) (i .fate))
     (λ e. e)
     (λ _. cond-both
-      (alike (i .fate) fate.RepoOut && is-day d (i .order .«return_date»))
-      (Some return)
-      None
-      (Is-due d (i .order) (i .fate))
-      (λ e. e)
-      (λ _. tt))
+    (alike (i .fate) fate.RepoOut && is-day d (i .order .«return_date»))
+    (Some return)
+    None
+    (Is-due d (i .order) (i .fate))
+    (λ e. e)
+    (λ _. tt))
 
 -- a try is idle, waits, or settles the leg that is due
 pub try-both : (st : Setting) (d : ℕ) (bs : List Blocking) (a : Amounts) (i : Instruction) (P : Try → Type 0)

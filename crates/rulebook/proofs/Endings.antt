@@ -55,12 +55,12 @@ record Counted (j : Journal) (next : ℕ) (zs : List Instruction) : Type 0 where
 
 counted-on : (j : Journal) (next : ℕ) (zs zs′ : List Instruction) (vs : List Movement) → Counted j next zs → Effect zs zs′ vs → Counted (j ++ vs) next zs′
 counted-on j next zs zs′ vs c e =
-    record
-      { positive = c .positive
-      ; known = λ n. e .known n ∙ c .known n
-      ; legs = λ n l. omega (arith, c .legs n l, e .legs n l, total-append (is-leg n l) j vs)
-      ; led = λ n t h. omega (arith, c .led n t h, e .led n t h)
-      }
+    record {
+      positive = c .positive;
+      known = λ n. e .known n ∙ c .known n;
+      legs = λ n l. omega (arith, c .legs n l, e .legs n l, total-append (is-leg n l) j vs);
+      led = λ n t h. omega (arith, c .led n t h, e .led n t h);
+    }
 
 -- the invariant of a past
 record Ends (s : Start) (h : Past) : Type 0 where
@@ -79,12 +79,12 @@ stays-on : (h : Past) (k : Book) (vs : List Movement) (gone zs : List Instructio
     → ((n : ℕ) (f : Fate) → with-fate h n f ≤ total (such n (λ g. alike g f)) zs)
     → Effect zs (k .instructions .standing ++ gone) vs → Stays h (past k (h .journal ++ vs) gone)
 stays-on h k vs gone zs l e =
-    record
-      { settled = λ n d. omega (arith, total-append (is-leg n d) (h .journal) vs)
-      ; refused = λ n. omega (arith, l n fate.Refused, e .stays n fate.Refused refl)
-      ; cancelled = λ n. omega (arith, l n fate.Cancelled, e .stays n fate.Cancelled refl)
-      ; return-refused = λ n. omega (arith, l n fate.ReturnRefused, e .stays n fate.ReturnRefused refl)
-      }
+    record {
+      settled = λ n d. omega (arith, total-append (is-leg n d) (h .journal) vs);
+      refused = λ n. omega (arith, l n fate.Refused, e .stays n fate.Refused refl);
+      cancelled = λ n. omega (arith, l n fate.Cancelled, e .stays n fate.Cancelled refl);
+      return-refused = λ n. omega (arith, l n fate.ReturnRefused, e .stays n fate.ReturnRefused refl);
+    }
 
 carried : (s : Start) (h : Past) (k : Book) (vs : List Movement) (gone : List Instruction) → Ends s h
     → k .instructions .next ≡ h .book .instructions .next
@@ -92,17 +92,18 @@ carried : (s : Start) (h : Past) (k : Book) (vs : List Movement) (gone : List In
     → All (Well (s .days) (k .standing)) (k .instructions .standing)
     → All Over gone
     → Goes s h (past k (h .journal ++ vs) gone)
-carried s h k vs gone i q e w o =
-    (record
-      { counted =
+carried s h k vs gone i q e w o = (
+  record {
+    counted =
         subst
         (λ (n : ℕ). Counted (h .journal ++ vs) n (k .instructions .standing ++ gone))
         (sym q)
-        (counted-on (h .journal) (h .book .instructions .next) (accepted h) (k .instructions .standing ++ gone) vs (i .counted) e)
-      ; well = w
-      ; over = o
-      }
-    , stays-on h k vs gone (accepted h) (λ n f. omega arith) e)
+        (counted-on (h .journal) (h .book .instructions .next) (accepted h) (k .instructions .standing ++ gone) vs (i .counted) e);
+    well = w;
+    over = o;
+  },
+  stays-on h k vs gone (accepted h) (λ n f. omega arith) e,
+)
 
 -- effects beside those that left the list
 beside : (xs ys gone : List Instruction) (vs : List Movement) → Effect xs ys vs → Effect (xs ++ gone) (ys ++ gone) vs
@@ -110,12 +111,12 @@ beside xs ys gone vs e = rw (append-nil vs) at (effect-append xs ys gone gone vs
 
 still : (zs : List Instruction) (vs : List Movement) → ((n : ℕ) (e : Leg) → times vs n e ≡ 0) → Effect zs zs vs
 still zs vs h =
-    record
-      { known = λ n. refl
-      ; legs = λ n e. omega (arith, h n e)
-      ; led = λ n t _. omega arith
-      ; stays = λ n f _. omega arith
-      }
+    record {
+      known = λ n. refl;
+      legs = λ n e. omega (arith, h n e);
+      led = λ n t _. omega arith;
+      stays = λ n f _. omega arith;
+    }
 
 -- calls that leave the list as it is
 same-list : (s : Start) (h : Past) (k : Book) (vs : List Movement) → Ends s h
@@ -138,18 +139,19 @@ nothing-yet false = refl
 counted-new : (j : Journal) (next : ℕ) (xs gone : List Instruction) (i : Instruction) → i .serial ≡ next → i .fate ≡ fate.Kept
     → Counted j next (xs ++ gone) → Counted j (next + 1) ((xs ++ i ∷ []) ++ gone)
 counted-new j next xs gone i q k c =
-    record
-      { positive = omega (arith, c .positive)
-      ; known = λ n.
-        omega
-        (arith
-        , more (numbered n)
-        , c .known n
-        , one-more n next (c .positive)
-        , ap {B = ℕ} (λ w. one-if (eqb w n)) q)
-      ; legs = λ n e. omega (arith, more (such n (has e)), c .legs n e, no-legs n e)
-      ; led = λ n t h. omega (arith, more (joining n t), more (leading n t), c .led n t h, no-join n t)
-      }
+    record {
+      positive = omega (arith, c .positive);
+      known = λ n.
+          omega (
+            arith,
+            more (numbered n),
+            c .known n,
+            one-more n next (c .positive),
+            ap {B = ℕ} (λ w. one-if (eqb w n)) q,
+          );
+      legs = λ n e. omega (arith, more (such n (has e)), c .legs n e, no-legs n e);
+      led = λ n t h. omega (arith, more (joining n t), more (leading n t), c .led n t h, no-join n t);
+    }
   where
     more : (f : Instruction → ℕ) → total f ((xs ++ i ∷ []) ++ gone) ≡ total f (xs ++ gone) + f i
     more f = omega (arith, total-append f (xs ++ i ∷ []) gone, total-append f xs (i ∷ []), total-append f xs gone)
@@ -171,9 +173,10 @@ order-comes s k o op h =
     let end = matures k (o .issue) in
     let p = and-parts (is-business (value o) (s .days) && (leb (today k) (value o) && ltb (value o) end)) (return-date-fits (setting-of s) (value o) end (o .«return_date»)) h in
     let v = and-parts (is-business (value o) (s .days)) (leb (today k) (value o) && ltb (value o) end) (p .0) in
-    let l = and-parts (leb (today k) (value o)) (ltb (value o) end) (v .1) in
-    (record { value-date = v .0; return-date = λ d q. back end d (o .«return_date») q (p .1) }
-    , record { waiting = λ _. open-yet (l .0); out = λ e. never e; plain = λ e. never e })
+    let l = and-parts (leb (today k) (value o)) (ltb (value o) end) (v .1) in (
+      record { value-date = v .0; return-date = λ d q. back end d (o .«return_date») q (p .1) },
+      record { waiting = λ _. open-yet (l .0); out = λ e. never e; plain = λ e. never e },
+    )
   where
     never : {X : Type 0} → false ≡ true → X
     never e = absurd (both-ways false refl e)
@@ -190,13 +193,14 @@ order-comes s k o op h =
 
 instruct-goes : (s : Start) (h : Past) (o : Order) → Ends s h → is-on-a-day (h .book) ≡ true → dates-fit (setting-of s) (h .book) o ≡ true
     → Goes s h (past (with-order (h .book) o) (h .journal ++ []) (h .departed))
-instruct-goes s h o i op fits =
-    (record
-      { counted = counted-on (h .journal) (h .book .instructions .next + 1) ((xs ++ new ∷ []) ++ gone) (ys ++ gone) [] (counted-new (h .journal) (h .book .instructions .next) xs gone new refl refl (i .counted)) e
-      ; well = arrive-well (s .days) (h .book .standing) xs new refl (i .well) (order-comes s (h .book) o op fits)
-      ; over = i .over
-      }
-    , stays-on h (with-order (h .book) o) [] gone ((xs ++ new ∷ []) ++ gone) (λ n f. grows (such n (λ g. alike g f))) e)
+instruct-goes s h o i op fits = (
+  record {
+    counted = counted-on (h .journal) (h .book .instructions .next + 1) ((xs ++ new ∷ []) ++ gone) (ys ++ gone) [] (counted-new (h .journal) (h .book .instructions .next) xs gone new refl refl (i .counted)) e;
+    well = arrive-well (s .days) (h .book .standing) xs new refl (i .well) (order-comes s (h .book) o op fits);
+    over = i .over;
+  },
+  stays-on h (with-order (h .book) o) [] gone ((xs ++ new ∷ []) ++ gone) (λ n f. grows (such n (λ g. alike g f))) e,
+)
   where
     xs : List Instruction
     xs = h .book .instructions .standing
@@ -254,7 +258,7 @@ module _ (s : Start) (h : Past) (i : Ends s h) where
       let ys = ended-all (today (h .book)) (made .0) in
       carried s h (shuts (h .book) ys) (made .1) (h .departed) i refl
       (beside xs ys (h .departed) (made .1)
-       (rw (append-nil (made .1)) at (effect-then xs (made .0) ys (made .1) [] made-effect (end-effect (today (h .book)) (made .0)))))
+      (rw (append-nil (made .1)) at (effect-then xs (made .0) ys (made .1) [] made-effect (end-effect (today (h .book)) (made .0)))))
       (end-well (s .days) (h .book .standing) op (made .0) made-well)
       (i .over)
 
@@ -268,13 +272,13 @@ module _ (s : Start) (h : Past) (i : Ends s h) where
   -- opening
   open-effect : (ys : List Instruction) → Effect (stayers xs) ys [] → Effect (accepted h) (ys ++ (leavers xs ++ h .departed)) []
   open-effect ys e =
-      record
-        { known = λ n. omega (arith, e .known n, before (numbered n), behind (numbered n))
-        ; legs = λ n l. omega (arith, e .legs n l, before (such n (has l)), behind (such n (has l)))
-        ; led = λ n t f.
-          omega (arith, e .led n t f, before (joining n t), behind (joining n t), before (leading n t), behind (leading n t))
-        ; stays = λ n f k. omega (arith, e .stays n f k, before (such n (λ g. alike g f)), behind (such n (λ g. alike g f)))
-        }
+      record {
+        known = λ n. omega (arith, e .known n, before (numbered n), behind (numbered n));
+        legs = λ n l. omega (arith, e .legs n l, before (such n (has l)), behind (such n (has l)));
+        led = λ n t f.
+            omega (arith, e .led n t f, before (joining n t), behind (joining n t), before (leading n t), behind (leading n t));
+        stays = λ n f k. omega (arith, e .stays n f k, before (such n (λ g. alike g f)), behind (such n (λ g. alike g f)));
+      }
     where
       before : (f : Instruction → ℕ) → total f (accepted h) ≡ total f (leavers xs) + total f (stayers xs) + total f (h .departed)
       before f = omega (arith, total-append f xs (h .departed), total-split f (leaves xs) xs)
@@ -289,8 +293,8 @@ module _ (s : Start) (h : Past) (i : Ends s h) where
       carried s h (opens (setting-of s) (h .book)) [] (leavers xs ++ h .departed) i refl
       (open-effect (wake-all (sd .day) [] (stayers xs)) (wake-all-effect (sd .day) [] (stayers xs)))
       (wake-all-well (s .days) sd [] (stayers xs) tt
-       (all-weaker (Well (s .days) (h .book .standing)) (Comes (s .days) sd) (opening-punctual (s .days) (h .book .standing) r op) (stayers xs)
-        (all-passing (Well (s .days) (h .book .standing)) (λ x. not (leaves xs x)) xs (i .well))))
+      (all-weaker (Well (s .days) (h .book .standing)) (Comes (s .days) sd) (opening-punctual (s .days) (h .book .standing) r op) (stayers xs)
+      (all-passing (Well (s .days) (h .book .standing)) (λ x. not (leaves xs x)) xs (i .well))))
       (all-append Over (leavers xs) (h .departed) (leavers-over (s .days) (h .book .standing) xs xs (i .well)) (i .over))
 
 -- what a call does by its outcome
@@ -319,7 +323,7 @@ module _ (s : Start) (sense : Sensible s) (h : Past) (i : Ends s h) where
     where
       go : (b : Bool) → is-shut (h .book) ≡ b
           → let o = ruled (cond b (Ok tt) (Err WrongState)) (work st now (h .book) call.Opening) in
-            Goes s h (past (book-by (h .book) o) (h .journal ++ moves-by o) (cond b (leavers (h .book .instructions .standing)) [] ++ h .departed))
+          Goes s h (past (book-by (h .book) o) (h .journal ++ moves-by o) (cond b (leavers (h .book .instructions .standing)) [] ++ h .departed))
       go true e = open-goes s h i (sense .days) e
       go false e = refused-goes s h i
 
@@ -329,9 +333,9 @@ module _ (s : Start) (sense : Sensible s) (h : Past) (i : Ends s h) where
       (eqb (h .book .standing .state) on-no-day)
       (does (answer.Closed 0 0) (shuts (h .book) (h .book .instructions .standing)) [])
       (does
-       (answer.Closed (legs-done st now (h .book)) (moved-to is-leg-refused (rounded st now (h .book) .0) (closing-list st now (h .book))))
-       (shuts (h .book) (closing-list st now (h .book)))
-       (rounded st now (h .book) .1))
+      (answer.Closed (legs-done st now (h .book)) (moved-to is-leg-refused (rounded st now (h .book) .0) (closing-list st now (h .book))))
+      (shuts (h .book) (closing-list st now (h .book)))
+      (rounded st now (h .book) .1))
       (By s h call.Closing)
       (λ e. rest-goes s h i e)
       (λ e. close-goes s h i (one-of-two (eqb (h .book .standing .state) on-a-day) (eqb (h .book .standing .state) on-no-day) (p .0) e))
@@ -365,11 +369,11 @@ ends s sense cs = all-goes s sense new-past new cs
 
     new : Ends s new-past
     new =
-        record
-          { counted = record { positive = omega arith; known = none-known; legs = λ n e. refl; led = λ n t h. omega arith }
-          ; well = tt
-          ; over = tt
-          }
+        record {
+          counted = record { positive = omega arith; known = none-known; legs = λ n e. refl; led = λ n t h. omega arith };
+          well = tt;
+          over = tt;
+        }
 
 -- how a past has ended its instructions
 pub record Ended-past (s : Start) (h : Past) : Type 0 where
@@ -377,13 +381,13 @@ pub record Ended-past (s : Start) (h : Past) : Type 0 where
   pub remembered : (n : ℕ) → with-serial h n ≡ one-if (ltb 0 n && ltb n (h .book .instructions .next))
   pub never-two : (n : ℕ) → endings h n ≤ 1
   pub decided : All
-    (λ i. day-closed (h .book .standing) (i .order .«value_date» .number) ≡ true → endings h (principal i) ≡ 1)
-    (accepted h)
+      (λ i. day-closed (h .book .standing) (i .order .«value_date» .number) ≡ true → endings h (principal i) ≡ 1)
+      (accepted h)
   pub return-never-two : (n : ℕ) → return-endings h n ≤ 1
   pub return-decided : All
-    (λ i. (d : Date) → i .order .«return_date» ≡ Some d → day-closed (h .book .standing) (d .number) ≡ true
+      (λ i. (d : Date) → i .order .«return_date» ≡ Some d → day-closed (h .book .standing) (d .number) ≡ true
       → times (h .journal) (principal i) first ≡ 1 → return-endings h (principal i) ≡ 1)
-    (accepted h)
+      (accepted h)
   pub stays : (c : Call) → Stays h (step s h c)
 
 total-plus : {X : Type 0} (f g : X → ℕ) (xs : List X) → total (λ x. f x + g x) xs ≡ total f xs + total g xs
@@ -446,7 +450,7 @@ ends-or-joins sd i c p = go (i .serial) (value (i .order)) (i .fate) (λ w. both
   where
     go : (s d : ℕ) (f : Fate) → (is-waiting f ≡ true → ⊥)
         → let n = behind-fate f s in
-          1 ≤ (one-if (eqb s n && has first f) + (one-if (eqb s n && alike f fate.Refused) + one-if (eqb s n && alike f fate.Cancelled))) + one-if (joins n f && eqb d d)
+        1 ≤ (one-if (eqb s n && has first f) + (one-if (eqb s n && alike f fate.Refused) + one-if (eqb s n && alike f fate.Cancelled))) + one-if (joins n f && eqb d d)
     go s d f h = grind (arith, tells)
 
 -- one whose first leg settled, and that leads with a closed return date, has ended its return
@@ -475,7 +479,7 @@ return-or-joins d i q =
   where
     go : (s : ℕ) (f : Fate) (t : Bool) → t ≡ true
         → let n = behind-fate f s in
-          1 ≤ one-if (eqb s n && not (leads f)) + (one-if (eqb s n && (leads f && t)) + one-if (joins n f && t))
+        1 ≤ one-if (eqb s n && not (leads f)) + (one-if (eqb s n && (leads f && t)) + one-if (joins n f && t))
     go s f t h = grind (arith, tells)
 
 led-or-not : (n : ℕ) (i : Instruction) → such n (λ f. not (leads f)) i + such n (has first) i ≤ numbered n i
@@ -535,18 +539,20 @@ module _ (s : Start) (h : Past) (i : Ends s h) where
 
   endings-are : (n : ℕ) → endings h n ≡ total (ending n) zs
   endings-are n =
-      omega
-      (arith
-      , i .counted .legs n first
-      , total-plus (such n (has first)) (λ x. such n (λ g. alike g fate.Refused) x + such n (λ g. alike g fate.Cancelled) x) zs
-      , total-plus (such n (λ g. alike g fate.Refused)) (such n (λ g. alike g fate.Cancelled)) zs)
+      omega (
+        arith,
+        i .counted .legs n first,
+        total-plus (such n (has first)) (λ x. such n (λ g. alike g fate.Refused) x + such n (λ g. alike g fate.Cancelled) x) zs,
+        total-plus (such n (λ g. alike g fate.Refused)) (such n (λ g. alike g fate.Cancelled)) zs,
+      )
 
   return-endings-are : (n : ℕ) → return-endings h n ≡ total (return-ending n) zs
   return-endings-are n =
-      omega
-      (arith
-      , i .counted .legs n return
-      , total-plus (such n (has return)) (such n (λ g. alike g fate.ReturnRefused)) zs)
+      omega (
+        arith,
+        i .counted .legs n return,
+        total-plus (such n (has return)) (such n (λ g. alike g fate.ReturnRefused)) zs,
+      )
 
   once-of : (n : ℕ) (e : Leg) → times (h .journal) n e ≤ 1
   once-of n e = omega (arith, i .counted .legs n e, total-every (such n (has e)) (numbered n) zs (such-le n (has e)), known-once n)
@@ -563,15 +569,16 @@ module _ (s : Start) (h : Past) (i : Ends s h) where
   decided-one x m c =
       let n = principal x in
       let d = value (x .order) in
-      omega
-      (arith
-      , never-two-of n
-      , endings-are n
-      , ends-or-joins sd x c (m .1)
-      , m .0 (ending n)
-      , m .0 (joining n (on-value d))
-      , i .counted .led n (on-value d) (value-shared d)
-      , total-le (leading n (on-value d)) (ending n) zs (all-weaker (λ y. Punctual sd (y .order) (y .fate)) (λ y. leading n (on-value d) y ≤ ending n y) (λ y p. lead-ends sd d n y c p) zs all-punctual))
+      omega (
+        arith,
+        never-two-of n,
+        endings-are n,
+        ends-or-joins sd x c (m .1),
+        m .0 (ending n),
+        m .0 (joining n (on-value d)),
+        i .counted .led n (on-value d) (value-shared d),
+        total-le (leading n (on-value d)) (ending n) zs (all-weaker (λ y. Punctual sd (y .order) (y .fate)) (λ y. leading n (on-value d) y ≤ ending n y) (λ y p. lead-ends sd d n y c p) zs all-punctual),
+      )
 
   return-decided-one : (x : Instruction) → ((f : Instruction → ℕ) → f x ≤ total f zs) × Punctual sd (x .order) (x .fate)
       → (d : Date) → x .order .«return_date» ≡ Some d → day-closed sd (d .number) ≡ true
@@ -579,23 +586,24 @@ module _ (s : Start) (h : Past) (i : Ends s h) where
   return-decided-one x m d q c one =
       let n = principal x in
       let t = on-return (d .number) in
-      omega
-      (arith
-      , return-never-two-of n
-      , return-endings-are n
-      , i .counted .legs n first
-      , known-once n
-      , return-or-joins d x q
-      , m .0 (such n (λ f. not (leads f)))
-      , m .0 (leading n t)
-      , m .0 (joining n t)
-      , i .counted .led n t (return-shared (d .number))
-      , total-every (λ y. such n (λ f. not (leads f)) y + such n (has first) y) (numbered n) zs (led-or-not n)
-      , total-plus (such n (λ f. not (leads f))) (such n (has first)) zs
-      , total-le (λ y. leading n t y + such n (has first) y) (λ y. numbered n y + return-ending n y) zs
-        (all-weaker (λ y. Punctual sd (y .order) (y .fate)) (λ y. leading n t y + such n (has first) y ≤ numbered n y + return-ending n y) (λ y p. return-ends sd d n y c p) zs all-punctual)
-      , total-plus (leading n t) (such n (has first)) zs
-      , total-plus (numbered n) (return-ending n) zs)
+      omega (
+        arith,
+        return-never-two-of n,
+        return-endings-are n,
+        i .counted .legs n first,
+        known-once n,
+        return-or-joins d x q,
+        m .0 (such n (λ f. not (leads f))),
+        m .0 (leading n t),
+        m .0 (joining n t),
+        i .counted .led n t (return-shared (d .number)),
+        total-every (λ y. such n (λ f. not (leads f)) y + such n (has first) y) (numbered n) zs (led-or-not n),
+        total-plus (such n (λ f. not (leads f))) (such n (has first)) zs,
+        total-le (λ y. leading n t y + such n (has first) y) (λ y. numbered n y + return-ending n y) zs
+            (all-weaker (λ y. Punctual sd (y .order) (y .fate)) (λ y. leading n t y + such n (has first) y ≤ numbered n y + return-ending n y) (λ y p. return-ends sd d n y c p) zs all-punctual),
+        total-plus (leading n t) (such n (has first)) zs,
+        total-plus (numbered n) (return-ending n) zs,
+      )
 
   members : All (λ x. ((f : Instruction → ℕ) → f x ≤ total f zs) × Punctual sd (x .order) (x .fate)) zs
   members =
@@ -603,15 +611,15 @@ module _ (s : Start) (h : Past) (i : Ends s h) where
 
   ended-of : Sensible s → Ended-past s h
   ended-of sense =
-      record
-        { once = once-of
-        ; remembered = i .counted .known
-        ; never-two = never-two-of
-        ; decided = all-weaker _ _ decided-one zs members
-        ; return-never-two = return-never-two-of
-        ; return-decided = all-weaker _ _ return-decided-one zs members
-        ; stays = λ c. each-goes s sense h i c .1
-        }
+      record {
+        once = once-of;
+        remembered = i .counted .known;
+        never-two = never-two-of;
+        decided = all-weaker _ _ decided-one zs members;
+        return-never-two = return-never-two-of;
+        return-decided = all-weaker _ _ return-decided-one zs members;
+        stays = λ c. each-goes s sense h i c .1;
+      }
 
 -- every list of calls
 pub ended : (s : Start) → Sensible s → (cs : List Call) → Ended-past s (history s cs)

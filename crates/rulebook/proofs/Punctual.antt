@@ -71,20 +71,20 @@ record Quieter (f g : Fate) : Type 0 where
 
 quieter : (sd : Standing) (o : Order) (f g : Fate) → Quieter f g → Punctual sd o f → Punctual sd o g
 quieter sd o f g q h =
-    record
-      { waiting = λ e. h .waiting (q .waiting e)
-      ; out = λ e. h .out (q .out e)
-      ; plain = λ e. h .plain (q .plain e)
-      }
+    record {
+      waiting = λ e. h .waiting (q .waiting e);
+      out = λ e. h .out (q .out e);
+      plain = λ e. h .plain (q .plain e);
+    }
 
 -- final fates wait for nothing
 done-with : (sd : Standing) (o : Order) (g : Fate) → is-waiting g ≡ false → alike g fate.RepoOut ≡ false → alike g fate.Settled ≡ false → Punctual sd o g
 done-with sd o g a b c =
-    record
-      { waiting = λ e. absurd (both-ways (is-waiting g) a e)
-      ; out = λ e. absurd (both-ways (alike g fate.RepoOut) b e)
-      ; plain = λ e. absurd (both-ways (alike g fate.Settled) c e)
-      }
+    record {
+      waiting = λ e. absurd (both-ways (is-waiting g) a e);
+      out = λ e. absurd (both-ways (alike g fate.RepoOut) b e);
+      plain = λ e. absurd (both-ways (alike g fate.Settled) c e);
+    }
 
 -- a later date is open where an earlier one is
 later-open : (sd : Standing) (v w : ℕ) → v ≤ w → day-closed sd v ≡ false → day-closed sd w ≡ false
@@ -128,13 +128,14 @@ opening-open days sd v r s b h = go (next-after (sd .day) days) refl
 
 pub opening-punctual : (days : List ℕ) (sd : Standing) → Rises-from 0 days → eqb (sd .state) shut ≡ true
     → (i : Instruction) → Well days sd i → Comes days (opened days sd) i
-opening-punctual days sd r s i h =
-    (h .fit
-    , record
-      { waiting = λ e. opening-open days sd (value (i .order)) r s (h .fit .value-date) (h .punctual .waiting e)
-      ; out = λ e d x. opening-open days sd (d .number) r s (h .fit .return-date d x .0) (h .punctual .out e d x)
-      ; plain = h .punctual .plain
-      })
+opening-punctual days sd r s i h = (
+  h .fit,
+  record {
+    waiting = λ e. opening-open days sd (value (i .order)) r s (h .fit .value-date) (h .punctual .waiting e);
+    out = λ e d x. opening-open days sd (d .number) r s (h .fit .return-date d x .0) (h .punctual .out e d x);
+    plain = h .punctual .plain;
+  },
+)
 
 -- an unmatched one that is matched still waits; so does a kept one that arrives
 matched-quieter : (f : Fate) → alike f fate.Unmatched ≡ true → Quieter f fate.Matched
@@ -152,13 +153,14 @@ pair-well days sd o (x ∷ xs) a =
     (turned x fate.Matched None ∷ xs, Some (x .serial))
     (x ∷ pair-up o xs .0, pair-up o xs .1)
     (λ r. All (Well days sd) (r .0))
-    (λ e. let p = and-parts (alike (x .fate) fate.Unmatched) (same-order (x .order) (counter o)) e in
-      (record
-        { fit = a .0 .fit
-        ; punctual = quieter sd (x .order) (x .fate) fate.Matched (matched-quieter (x .fate) (p .0)) (a .0 .punctual)
-        ; patient = λ e. never e
-        }
-      , a .1))
+    (λ e. let p = and-parts (alike (x .fate) fate.Unmatched) (same-order (x .order) (counter o)) e in (
+      record {
+        fit = a .0 .fit;
+        punctual = quieter sd (x .order) (x .fate) fate.Matched (matched-quieter (x .fate) (p .0)) (a .0 .punctual);
+        patient = λ e. never e;
+      },
+      a .1,
+    ))
     (λ _. (a .0, pair-well days sd o xs (a .1)))
 
 pub arrive-well : (days : List ℕ) (sd : Standing) (xs : List Instruction) (i : Instruction) → alike (i .fate) fate.Kept ≡ true
@@ -216,41 +218,42 @@ cancel-well days sd p n xs a =
 settled-well : (days : List ℕ) (sd : Standing) (i : Instruction) (l : Leg) (r : Option Date) → i .order .«return_date» ≡ r
     → Is-due (sd .day) (i .order) (i .fate) (Some l) → Well days sd i → Well days sd (settled-one i l r)
 settled-well days sd i first None q e h =
-    record
-      { fit = h .fit
-      ; punctual =
-        record
-          { waiting = λ x. never x
-          ; out = λ x. never x
-          ; plain = λ x d y. let z : _≡_ {A = ℕ} 0 1 = cc in omega arith
-          }
-      ; patient = λ x. never x
-      }
+    record {
+      fit = h .fit;
+      punctual =
+          record {
+            waiting = λ x. never x;
+            out = λ x. never x;
+            plain = λ x d y. let z : _≡_ {A = ℕ} 0 1 = cc in omega arith;
+          };
+      patient = λ x. never x;
+    }
 settled-well days sd i first (Some d) q e h =
-    record
-      { fit = h .fit
-      ; punctual =
-        record
-          { waiting = λ x. never x
-          ; out = λ x c y.
-            later-open sd (value (i .order)) (c .number) (omega (arith, h .fit .return-date c y .1))
-            (h .punctual .waiting (or-right (alike (i .fate) fate.Kept) (alike (i .fate) fate.Unmatched || alike (i .fate) fate.Matched) (or-right (alike (i .fate) fate.Unmatched) (alike (i .fate) fate.Matched) e)))
-          ; plain = λ x. never x
-          }
-      ; patient = λ x. never x
-      }
+    record {
+      fit = h .fit;
+      punctual =
+          record {
+            waiting = λ x. never x;
+            out = λ x c y.
+                later-open sd (value (i .order)) (c .number) (omega (arith, h .fit .return-date c y .1))
+                (h .punctual .waiting (or-right (alike (i .fate) fate.Kept) (alike (i .fate) fate.Unmatched || alike (i .fate) fate.Matched) (or-right (alike (i .fate) fate.Unmatched) (alike (i .fate) fate.Matched) e)));
+            plain = λ x. never x;
+          };
+      patient = λ x. never x;
+    }
 settled-well days sd i return r q e h =
     record { fit = h .fit; punctual = done-with sd (i .order) fate.RepoBack refl refl refl; patient = λ x. never x }
 
 pub round-well : (days : List ℕ) (sd : Standing) (st : Setting) (bs : List Blocking) (is : List Instruction) (a : Amounts)
     → All (Well days sd) is → All (Well days sd) (rounds st (sd .day) bs is a .0)
 round-well days sd st bs [] a w = tt
-round-well days sd st bs (i ∷ is) a w =
-    ( try-both st (sd .day) bs a i (λ t. Well days sd (tried i t))
+round-well days sd st bs (i ∷ is) a w = (
+  try-both st (sd .day) bs a i (λ t. Well days sd (tried i t))
       (w .0)
       (λ c. w .0)
-      (λ l e. settled-well days sd i l (i .order .«return_date») refl e (w .0))
-    , round-well days sd st bs is (afters (try-moves st (sd .day) i (try st (sd .day) bs a i)) a) (w .1))
+      (λ l e. settled-well days sd i l (i .order .«return_date») refl e (w .0)),
+  round-well days sd st bs is (afters (try-moves st (sd .day) i (try st (sd .day) bs a i)) a) (w .1),
+)
 
 -- after closing on a day nothing waits for it
 end-one : (days : List ℕ) (sd : Standing) → eqb (sd .state) on-a-day ≡ true → (i : Instruction) → Well days sd i → Well days (closed sd) (ended (sd .day) i)
@@ -260,16 +263,16 @@ end-one days sd s i h =
     (λ _. refused fate.Refused refl refl refl refl)
     (λ _. refused fate.ReturnRefused refl refl refl refl)
     (λ u m r.
-      record
-        { fit = h .fit
-        ; punctual =
-          record
-            { waiting = λ e. lt-leb (value (i .order)) (sd .day) (h .patient (only-kept (alike (i .fate) fate.Kept) (alike (i .fate) fate.Unmatched) (alike (i .fate) fate.Matched) e u m))
-            ; out = λ e d x. after-day (d .number) (h .punctual .out e d x) (not-day (alike (i .fate) fate.RepoOut) d (i .order .«return_date») e x r)
-            ; plain = h .punctual .plain
-            }
-        ; patient = h .patient
-        })
+    record {
+      fit = h .fit;
+      punctual =
+          record {
+            waiting = λ e. lt-leb (value (i .order)) (sd .day) (h .patient (only-kept (alike (i .fate) fate.Kept) (alike (i .fate) fate.Unmatched) (alike (i .fate) fate.Matched) e u m));
+            out = λ e d x. after-day (d .number) (h .punctual .out e d x) (not-day (alike (i .fate) fate.RepoOut) d (i .order .«return_date») e x r);
+            plain = h .punctual .plain;
+          };
+      patient = h .patient;
+    })
   where
     refused : (g : Fate) → is-waiting g ≡ false → alike g fate.RepoOut ≡ false → alike g fate.Settled ≡ false → alike g fate.Kept ≡ false → Stands days (closed sd) (i .order) g
     refused g a b c k =
@@ -292,16 +295,16 @@ end-well days sd s is a =
 -- closing on no day closes no day
 pub rest-well : (days : List ℕ) (sd : Standing) → eqb (sd .state) on-no-day ≡ true → (i : Instruction) → Well days sd i → Well days (closed sd) i
 rest-well days sd s i h =
-    record
-      { fit = h .fit
-      ; punctual =
-        record
-          { waiting = λ e. same (value (i .order)) (h .punctual .waiting e)
-          ; out = λ e d x. same (d .number) (h .punctual .out e d x)
-          ; plain = h .punctual .plain
-          }
-      ; patient = h .patient
-      }
+    record {
+      fit = h .fit;
+      punctual =
+          record {
+            waiting = λ e. same (value (i .order)) (h .punctual .waiting e);
+            out = λ e d x. same (d .number) (h .punctual .out e d x);
+            plain = h .punctual .plain;
+          };
+      patient = h .patient;
+    }
   where
     same : (v : ℕ) → day-closed sd v ≡ false → leb v (sd .day) ≡ false
     same v x = grind (arith, tells)
@@ -350,8 +353,8 @@ leavers-over days sd xs (i ∷ ys) a =
     one : is-past (i .fate) ≡ true → Over i
     one e sd =
         let p = and-parts (not (is-waiting (i .fate))) (not (alike (i .fate) fate.RepoOut)) e in
-        record
-          { waiting = λ x. absurd (both-ways (is-waiting (i .fate)) (not-true (is-waiting (i .fate)) (p .0)) x)
-          ; out = λ x. absurd (both-ways (alike (i .fate) fate.RepoOut) (not-true (alike (i .fate) fate.RepoOut) (p .1)) x)
-          ; plain = a .0 .punctual .plain
-          }
+        record {
+          waiting = λ x. absurd (both-ways (is-waiting (i .fate)) (not-true (is-waiting (i .fate)) (p .0)) x);
+          out = λ x. absurd (both-ways (alike (i .fate) fate.RepoOut) (not-true (alike (i .fate) fate.RepoOut) (p .1)) x);
+          plain = a .0 .punctual .plain;
+        }
