@@ -12,3 +12,6 @@ pub mod Agreement
 pub mod Ordered
 pub mod Quantities
 pub mod Working
+pub mod Effects
+pub mod Punctual
+pub mod Endings
