@@ -2,3 +2,5 @@ pub mod Sheet
 pub mod Day
 pub mod Rising
 pub mod Totals
+pub mod Covers
+pub mod Roll
