@@ -4,3 +4,4 @@ pub mod Rising
 pub mod Totals
 pub mod Covers
 pub mod Roll
+pub mod Fits
