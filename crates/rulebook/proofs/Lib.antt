@@ -5,3 +5,4 @@ pub mod Totals
 pub mod Covers
 pub mod Roll
 pub mod Fits
+pub mod Settling
