@@ -6,3 +6,4 @@ pub mod Covers
 pub mod Roll
 pub mod Fits
 pub mod Settling
+pub mod Course
