@@ -7,3 +7,5 @@ pub mod Roll
 pub mod Fits
 pub mod Settling
 pub mod Course
+pub mod Issued
+pub mod Legs
