@@ -9,3 +9,4 @@ pub mod Settling
 pub mod Course
 pub mod Issued
 pub mod Legs
+pub mod Short

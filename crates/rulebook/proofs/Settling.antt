@@ -174,6 +174,19 @@ leg-here-once : (n : ℕ) (e : Leg) → one-if (eqb n n && same-leg e e) ≡ 1
 leg-here-once n first = ap one-if (and-from _ _ (eq-eqb n n refl) refl)
 leg-here-once n return = ap one-if (and-from _ _ (eq-eqb n n refl) refl)
 
+-- the leg that a fate waits for is due on its date
+pub ready-date : (days : List ℕ) (s : Standing) (j : Journal) (i : Instruction) (e : Leg) → Fit days s j i → Ready (s .day) i e → leg-date (i .order) e ≡ s .day
+ready-date days s j i first h r = subst (λ (x : Fate). Fits days s j (i .serial) (i .order) x) r h .0
+ready-date days s j i return h r = day-true (s .day) (i .order .«return_date») (r .1)
+
+pub leg-covered : (st : Setting) (d : ℕ) (bs : List Blocking) (a : Amounts) (i : Instruction) (e : Leg)
+    → leb (i .order .nominal) (free a bs (giver (i .order) e)) ≡ true → affords a (leg-payment st (i .order) e) ≡ true → Covered a (leg st d i e)
+leg-covered st d bs a i e n m =
+    record
+      { nominal = λ p. at-le (a .nominal) (giver (i .order) e) p (i .order .nominal) (omega (arith, leb-true (i .order .nominal) (free a bs (giver (i .order) e)) n))
+      ; funds = λ x. affords-le a (leg-payment st (i .order) e) x m
+      }
+
 -- what a round leaves, of the instructions is, after the journal j
 pub record Rounded (st : Setting) (f : Funds) (days : List ℕ) (s : Standing) (ns : List Instruction) (next : ℕ) (is : List Instruction) (j : Journal) (r : List Instruction × List Movement) : Type 0 where
   pub fit : All (Fit days s (j ++ r .1)) (r .0)
@@ -183,10 +196,6 @@ pub record Rounded (st : Setting) (f : Funds) (days : List ℕ) (s : Standing) (
 
 module _ (st : Setting) (f : Funds) (days : List ℕ) (s : Standing) (bs : List Blocking) (ns : List Instruction) (next : ℕ)
   (u : (n : ℕ) → total (λ x. one-if (has-serial n x)) ns ≤ one-if (ltb n next)) where
-  ready-date : (j : Journal) (i : Instruction) (e : Leg) → Fit days s j i → Ready (s .day) i e → leg-date (i .order) e ≡ s .day
-  ready-date j i first h r = subst (λ (x : Fate). Fits days s j (i .serial) (i .order) x) r h .0
-  ready-date j i return h r = day-true (s .day) (i .order .«return_date») (r .1)
-
   -- a return has its first leg before it
   ready-behind : (j : Journal) (i : Instruction) (e : Leg) → Fit days s j i → Ready (s .day) i e
       → (n : ℕ) → times (leg st (s .day) i e ∷ []) n return ≤ times j n first
@@ -204,14 +213,6 @@ module _ (st : Setting) (f : Funds) (days : List ℕ) (s : Standing) (bs : List 
   settled-fit j i first (Some d) =
       omega (arith, total-push (is-leg (i .serial) first) j (leg st (s .day) i first), leg-here-once (i .serial) first)
   settled-fit j i return d = tt
-
-  leg-covered : (a : Amounts) (i : Instruction) (e : Leg) → leb (i .order .nominal) (free a bs (giver (i .order) e)) ≡ true
-      → affords a (leg-payment st (i .order) e) ≡ true → Covered a (leg st (s .day) i e)
-  leg-covered a i e n m =
-      record
-        { nominal = λ p. at-le (a .nominal) (giver (i .order) e) p (i .order .nominal) (omega (arith, leb-true (i .order .nominal) (free a bs (giver (i .order) e)) n))
-        ; funds = λ x. affords-le a (leg-payment st (i .order) e) x m
-        }
 
   abbrev after-try : List Instruction → Amounts → Instruction → Try → List Instruction × List Movement
   after-try is a i t =
@@ -237,14 +238,14 @@ module _ (st : Setting) (f : Funds) (days : List ℕ) (s : Standing) (bs : List 
         let v : Movement = leg st (s .day) i e in
         let x : Instruction = tried i (settles e) in
         let rest : List Instruction × List Movement = rounds st (s .day) bs is (after v a) in
-        let y = ih (j ++ v ∷ []) (after v a) (shown-more f a j v h (leg-covered a i e n c))
+        let y = ih (j ++ v ∷ []) (after v a) (shown-more f a j v h (leg-covered st (s .day) bs a i e n c))
           (all-weaker (Fit days s j) (Fit days s (j ++ v ∷ [])) (λ z. fit-more days s j (v ∷ []) (z .serial) (z .order) (z .fate)) is (w .1)) in
         let all : All (Fit days s ((j ++ v ∷ []) ++ rest .1)) (x ∷ rest .0)
           = (fit-more days s (j ++ v ∷ []) (rest .1) (x .serial) (x .order) (x .fate) (settled-fit j i e (i .order .«return_date»)), y .fit) in
         record
           { fit = subst (λ (l : Journal). All (Fit days s l) (x ∷ rest .0)) (append-assoc j (v ∷ []) (rest .1)) all
           ; shown = subst (λ (l : Journal). Shown f (reads f l) l) (append-assoc j (v ∷ []) (rest .1)) (y .shown)
-          ; proper = (leg-proper st ns next (s .day) i e u k m (ready-date j i e (w .0) r), y .proper)
+          ; proper = (leg-proper st ns next (s .day) i e u k m (ready-date days s j i e (w .0) r), y .proper)
           ; returns = (ready-behind j i e (w .0) r, y .returns)
           }
 
