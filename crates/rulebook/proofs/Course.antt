@@ -1,12 +1,10 @@
 -- What every call keeps: amounts are covered, legs are proper, serials stand once and rise, fates fit the day and the journal.
 use mathlib.Core.Path.{_≡_, refl, ap, sym, subst, _∙_}
-use mathlib.Core.List.{List, [], _∷_, _++_, map}
-use mathlib.Core.Bool.{Bool, true, false, cond, not, _&&_, _||_}
-use mathlib.Core.Logic.{_⊎_, inl, inr}
-use Prim.Native.Nat.{ℕ, _+_, _-_, _≤_, _<_}
+use mathlib.Core.List.{List, [], _∷_, _++_}
+use mathlib.Core.Bool.{Bool, true, false, cond, not}
+use Prim.Native.Nat.{ℕ, _+_, _≤_, _<_}
 use native.Mathlib.Omega.{arith}
-use lib.Dec.{eqb, leb, ltb}
-use lib.ListN.{length}
+use lib.Dec.{eqb, ltb}
 use Rattle.std.specs.declared.option.Option.{Option}
 use Rattle.std.specs.declared.option.Option.the-variants.{Some, None}
 use Rattle.std.specs.declared.result.Result.{Result}
@@ -14,33 +12,29 @@ use Rattle.std.specs.declared.result.Result.the-variants.{Ok, Err}
 use Rattle.std.specs.shelf.Lists.{All}
 use Rattle.std.proofs.shelf.Lists.{append-nil, append-assoc, map-append}
 use Rattle.std.proofs.shelf.Elements.{all-append, all-push, all-weaker}
-use Rattle.std.proofs.shelf.Tests.{cond-both, and-parts, leb-true, eqb-true, eqb-false, ltb-true, ne-eqb, and-left}
+use Rattle.std.proofs.shelf.Tests.{cond-both, and-parts, leb-true, eqb-true, ltb-true, ne-eqb, and-left}
 use Rattle.std.proofs.shelf.Ways.{tells}
 use Rattle.refusals.specs.declared.Refusal.{Refusal}
 use Rattle.refusals.specs.declared.Refusal.the-variants.{WrongState}
 use Rattle.calendar.specs.declared.Date.{Date}
 use Rattle.calendar.specs.Days.{passing, is-business}
-use Rattle.money.specs.Funds.{Funds}
-use Rattle.rulebook.specs.declared.Side.the-variants.{Own, Customer}
 use Rattle.rulebook.specs.declared.Order.{Order}
 use Rattle.rulebook.specs.declared.Placement.{Placement}
-use Rattle.rulebook.specs.declared.Fate.{Fate}
-use Rattle.rulebook.specs.declared.Fate.the-variants as fate
 use Rattle.rulebook.specs.declared.Call.{Call}
 use Rattle.rulebook.specs.declared.Call.the-variants as call
 use Rattle.rulebook.specs.declared.Answer.the-variants as answer
 use Rattle.rulebook.specs.States.{shut, on-a-day, on-no-day, Standing, opened, closed}
-use Rattle.rulebook.specs.Words.{one-if, total, Place, place, Leg, first, return, Movement, placed, settled, redeemed, Amounts, Blocking, Instruction, alike, Setting, Book, Start, payment}
-use Rattle.rulebook.specs.Checks.{Check, verdict, today, is-shut, is-on-a-day, knows, affords, has-serial, return-date-fits, matures, place-checks, instruct-checks, redeem-checks, held, close-checks}
+use Rattle.rulebook.specs.Words.{one-if, total, return, Movement, placed, settled, redeemed, Amounts, Blocking, Instruction, Setting, Start}
+use Rattle.rulebook.specs.Checks.{Check, verdict, today, is-shut, knows, has-serial, return-date-fits, matures}
 use Rattle.rulebook.specs.Matching.{arrive, wake-all, leaves, leavers, stayers, cancelled-in}
-use Rattle.rulebook.specs.Rounds.{rounds, ended-all}
-use Rattle.rulebook.specs.Rules.{Outcome, refuses, does, checks, work, ruled, book-by, moves-by, incoming, with-order, placing, redeeming, rounded as round-of, closing-list, shuts, opens, opening-day}
-use Rattle.rulebook.specs.Journal.{Journal, times, reads, setting-of, Past, new-past, accepted, leaving, outcome, step, history-from, history}
+use Rattle.rulebook.specs.Rounds.{rounds}
+use Rattle.rulebook.specs.Rules.{Outcome, refuses, does, checks, work, ruled, book-by, moves-by, incoming, placing, redeeming, rounded as round-of, closing-list, opens, opening-day}
+use Rattle.rulebook.specs.Journal.{Journal, times, reads, setting-of, Past, new-past, outcome, step, history-from, history}
 use Rattle.rulebook.specs.Laws.{Sensible, carries-out, is-settlement, Returns-behind}
-use Rattle.rulebook.proofs.Totals.{total-append, total-push, total-map, total-split, member-le, all-front, all-passing}
+use Rattle.rulebook.proofs.Totals.{total-append, total-push, total-map, total-split, member-le, all-front}
 use Rattle.rulebook.proofs.Covers.{Shown, Covered, shown-more, reads-shown, two-at, affords-le}
-use Rattle.rulebook.proofs.Roll.{bare, bares, arrive-bare, wake-all-bare, cancelled-bare, ended-bare, rounds-bare, total-bare, Climbs, climbs-push, climbs-passing}
-use Rattle.rulebook.proofs.Fits.{value-of, Fits, Fit, fit-more, arrive-fit, cancelled-fit, ended-fit, idle-fit, stayed-fit}
+use Rattle.rulebook.proofs.Roll.{bare, bares, arrive-bare, wake-all-bare, cancelled-bare, ended-bare, rounds-bare, Climbs, climbs-push, climbs-passing}
+use Rattle.rulebook.proofs.Fits.{value-of, Fit, fit-more, arrive-fit, cancelled-fit, ended-fit, idle-fit, stayed-fit}
 use Rattle.rulebook.proofs.Settling.{Within, carriers, Proper, later, Known, Listed, Rounded, rounded}
 
 -- every check holds
@@ -122,7 +116,7 @@ module _ (s : Start) where
       let ns : List Instruction = bares xs ++ bares gone in
       let a : Amounts = reads (s .funds) j in
       let r : List Instruction × List Movement = rounds (setting-of s) (sd .day) bs xs a in
-      let y : Rounded (setting-of s) (s .funds) (s .days) sd ns next xs j r
+      let y : Rounded (setting-of s) (s .funds) (s .days) sd ns next j r
         = rounded (setting-of s) (s .funds) (s .days) sd bs ns next (h .counted) xs j a (h .shown) (h .fit) (h .known) (all-front (Listed ns) (bares xs) (bares gone) (member-le ns)) in
       turns (moves h (r .1) (y .shown) (y .proper) (y .returns)) sd (r .0) (rounds-bare (setting-of s) (sd .day) bs xs a) (y .fit)
 
@@ -252,7 +246,6 @@ return-later st value end (Some d) e =
     ltb-true value (d .number) (and-parts (ltb value (d .number)) _ (and-parts (is-business (d .number) (st .days)) _ e .1) .0)
 
 module _ (s : Start) (w : Sensible s) (h : Past) (k : Kept s h) where
-
   by-checks : (c : Call) → (Passes (checks (setting-of s) (reads (s .funds) (h .journal)) (h .book) c)
       → Kept s (past-by h (work (setting-of s) (reads (s .funds) (h .journal)) (h .book) c)))
       → Kept s (past-by h (outcome s h c))

@@ -1,29 +1,27 @@
 -- What each fate says of the day and of the journal.
-use mathlib.Core.Path.{_≡_, refl, ap, sym, subst, _∙_}
-use mathlib.Core.List.{List, [], _∷_, _++_, map}
+use mathlib.Core.Path.{_≡_, refl, sym, subst}
+use mathlib.Core.List.{List, [], _∷_, _++_}
 use mathlib.Core.Bool.{Bool, true, false, cond, not, _&&_, _||_}
-use mathlib.Core.Logic.{_⊎_, inl, inr}
 use Prim.Native.Nat.{ℕ, _+_, _≤_, _<_}
 use native.Mathlib.Omega.{arith}
-use lib.Dec.{eqb, leb, ltb}
+use lib.Dec.{eqb, leb}
 use Rattle.std.specs.declared.option.Option.{Option}
 use Rattle.std.specs.declared.option.Option.the-variants.{Some, None}
 use Rattle.std.specs.shelf.Lists.{All}
 use Rattle.std.proofs.shelf.Elements.{all-push, all-weaker}
 use Rattle.std.proofs.shelf.Tests.{cond-both, and-parts, or-parts, not-true, leb-true, leb-false, eqb-true}
-use Rattle.calendar.specs.declared.Date.{Date}
 use Rattle.calendar.specs.Days.{is-business, passing, first-from, next-after}
 use Rattle.rulebook.specs.declared.Order.{Order}
 use Rattle.rulebook.specs.declared.Fate.{Fate}
 use Rattle.rulebook.specs.declared.Fate.the-variants as fate
 use Rattle.rulebook.specs.States.{shut, on-a-day, on-no-day, Standing, opened-on, opened, closed}
-use Rattle.rulebook.specs.Words.{total, some-passes, Leg, first, return, is-leg, Instruction, turned, alike}
+use Rattle.rulebook.specs.Words.{first, is-leg, Instruction, turned, alike}
 use Rattle.rulebook.specs.Checks.{is-inside, may-cancel}
-use Rattle.rulebook.specs.Matching.{is-partner, pair-up, met, admit, arrive, wake, wake-all, has-ended, joins, leaves, stayers, cancelled-in}
+use Rattle.rulebook.specs.Matching.{is-partner, pair-up, met, admit, arrive, wake, wake-all, has-ended, leaves, stayers, cancelled-in}
 use Rattle.rulebook.specs.Rounds.{is-day, ended, ended-all}
 use Rattle.rulebook.specs.Journal.{Journal, times}
 use Rattle.rulebook.specs.Laws.{Rises-from}
-use Rattle.rulebook.proofs.Totals.{total-append, all-passing}
+use Rattle.rulebook.proofs.Totals.{total-append}
 
 abbrev pub value-of : Order → ℕ
 value-of o = o .«value_date» .number

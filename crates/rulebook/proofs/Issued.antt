@@ -1,8 +1,8 @@
 -- An issue's outstanding nominal is what was placed less what was redeemed.
-use mathlib.Core.Path.{_≡_, refl, ap, sym, subst, _∙_}
-use mathlib.Core.List.{List, [], _∷_, _++_}
-use mathlib.Core.Bool.{Bool, true, false, cond, _&&_}
-use Prim.Native.Nat.{ℕ, zero, suc, _+_, _-_, _≤_, _<_}
+use mathlib.Core.Path.{_≡_, refl, ap, _∙_}
+use mathlib.Core.List.{List, [], _∷_}
+use mathlib.Core.Bool.{Bool, cond, _&&_}
+use Prim.Native.Nat.{ℕ, zero, suc, _+_, _<_}
 use native.Mathlib.Omega.{arith}
 use lib.Dec.{eqb, ltb}
 use Rattle.std.specs.shelf.Lists.{All}
@@ -12,12 +12,12 @@ use Rattle.std.proofs.shelf.Ways.{tells}
 use Rattle.rulebook.specs.declared.Side.{Side}
 use Rattle.rulebook.specs.declared.Side.the-variants.{Own, Customer}
 use Rattle.rulebook.specs.declared.Call.{Call}
-use Rattle.rulebook.specs.Words.{total, sum-below, same-side, Place, place, same, at, Movement, placed, settled, redeemed, takes, brings, Start, outstanding}
+use Rattle.rulebook.specs.Words.{total, sum-below, same-side, Place, place, at, Movement, placed, settled, redeemed, takes, brings, Start, outstanding}
 use Rattle.rulebook.specs.Journal.{Journal, taken, brought, reads, setting-of, history}
 use Rattle.rulebook.specs.Laws.{Sensible, places, redeems}
-use Rattle.rulebook.proofs.Totals.{sum-below-same, sum-below-plus}
-use Rattle.rulebook.proofs.Settling.{Within, Proper}
-use Rattle.rulebook.proofs.Course.{Kept, kept}
+use Rattle.rulebook.proofs.Totals.{sum-below-same}
+use Rattle.rulebook.proofs.Settling.{Within}
+use Rattle.rulebook.proofs.Course.{kept}
 
 -- the sum over all places of an issue
 abbrev spread : ℕ → ℕ → (Place → ℕ) → ℕ

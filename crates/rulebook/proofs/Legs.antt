@@ -1,7 +1,6 @@
 -- Each leg in the journal is one accepted instruction's, and each return has its first leg before it.
-use mathlib.Core.Path.{_≡_, refl, ap, sym, _∙_}
-use mathlib.Core.List.{List, [], _∷_, _++_}
-use Prim.Native.Nat.{ℕ}
+use mathlib.Core.Path.{_≡_, refl, ap, _∙_}
+use mathlib.Core.List.{List, []}
 use Rattle.std.specs.shelf.Lists.{All}
 use Rattle.std.proofs.shelf.Lists.{map-append}
 use Rattle.std.proofs.shelf.Elements.{all-weaker}
@@ -9,8 +8,8 @@ use Rattle.rulebook.specs.declared.Call.{Call}
 use Rattle.rulebook.specs.Words.{one-if, total, Movement, placed, settled, redeemed, Instruction, Setting, Start}
 use Rattle.rulebook.specs.Journal.{setting-of, Past, accepted, history}
 use Rattle.rulebook.specs.Laws.{Sensible, carries-out, is-settlement, Returns-behind}
-use Rattle.rulebook.proofs.Roll.{bare, bares, total-bare}
-use Rattle.rulebook.proofs.Course.{Kept, kept}
+use Rattle.rulebook.proofs.Roll.{bare, total-bare}
+use Rattle.rulebook.proofs.Course.{kept}
 
 pub returns-holds : (s : Start) → Sensible s → (cs : List Call) → Returns-behind [] (history s cs .journal)
 returns-holds s w cs = kept s w cs .returns

@@ -1,8 +1,8 @@
 -- A round: every leg that settles is its instruction's, on its date, and is covered.
-use mathlib.Core.Path.{_≡_, refl, ap, sym, subst, _∙_}
-use mathlib.Core.List.{List, [], _∷_, _++_, map}
-use mathlib.Core.Bool.{Bool, true, false, cond, not, _&&_, _||_}
-use Prim.Native.Nat.{ℕ, _+_, _-_, _≤_, _<_}
+use mathlib.Core.Path.{_≡_, refl, ap, sym, subst}
+use mathlib.Core.List.{List, [], _∷_, _++_}
+use mathlib.Core.Bool.{Bool, true, false, cond, _&&_}
+use Prim.Native.Nat.{ℕ, _+_, _≤_, _<_}
 use native.Mathlib.Omega.{arith}
 use lib.Dec.{eqb, leb, ltb}
 use Rattle.std.specs.declared.option.Option.{Option}
@@ -10,9 +10,8 @@ use Rattle.std.specs.declared.option.Option.the-variants.{Some, None}
 use Rattle.std.specs.shelf.Lists.{All}
 use Rattle.std.proofs.shelf.Lists.{append-nil, append-assoc}
 use Rattle.std.proofs.shelf.Elements.{all-weaker}
-use Rattle.std.proofs.shelf.Tests.{cond-both, and-parts, and-from, leb-true, eq-eqb, eqb-true, ltb-true, cond-true}
+use Rattle.std.proofs.shelf.Tests.{cond-both, and-parts, and-from, leb-true, eq-eqb, eqb-true}
 use Rattle.std.proofs.shelf.Ways.{tells}
-use Rattle.refusals.specs.declared.Refusal.{Refusal}
 use Rattle.refusals.specs.declared.Refusal.the-variants.{NominalShort, MoneyShort}
 use Rattle.calendar.specs.declared.Date.{Date}
 use Rattle.money.specs.Funds.{Funds}
@@ -21,16 +20,16 @@ use Rattle.rulebook.specs.declared.Side.the-variants.{Own, Customer}
 use Rattle.rulebook.specs.declared.Order.{Order}
 use Rattle.rulebook.specs.declared.Fate.{Fate}
 use Rattle.rulebook.specs.declared.Fate.the-variants as fate
-use Rattle.rulebook.specs.States.{on-a-day, Standing}
-use Rattle.rulebook.specs.Words.{one-if, total, same-side, Place, same, Payment, Leg, first, return, same-leg, Movement, placed, settled, redeemed, takes, is-leg, Amounts, after, afters, Blocking, Instruction, turned, alike, Setting, blocked, free}
+use Rattle.rulebook.specs.States.{Standing}
+use Rattle.rulebook.specs.Words.{one-if, total, same-side, Place, same, Payment, Leg, first, return, same-leg, Movement, placed, settled, redeemed, is-leg, Amounts, after, afters, Blocking, Instruction, turned, alike, Setting, free}
 use Rattle.rulebook.specs.Checks.{affords, has-serial, date-of}
 use Rattle.rulebook.specs.Matching.{same-option}
 use Rattle.rulebook.specs.Rounds.{giver, receiver, leg-payment, leg, is-day, due, Try, idle, waits, settles, try-leg, try, settled-one, tried, try-moves, rounds}
 use Rattle.rulebook.specs.Journal.{Journal, times, reads}
 use Rattle.rulebook.specs.Laws.{leg-date, same-payment, moves-as, carries-out, is-settlement, Returns-behind}
-use Rattle.rulebook.proofs.Totals.{total-append, total-push, total-le}
+use Rattle.rulebook.proofs.Totals.{total-push}
 use Rattle.rulebook.proofs.Covers.{Shown, Covered, shown-more, reads-shown, at-le, affords-le}
-use Rattle.rulebook.proofs.Roll.{bare, bares, tried-bare}
+use Rattle.rulebook.proofs.Roll.{bare, bares}
 use Rattle.rulebook.proofs.Fits.{value-of, Fits, Fit, fit-more, is-matched, is-out}
 
 -- the leg is the one that the fate waits for
@@ -187,8 +186,8 @@ leg-covered st d bs a i e n m =
       ; funds = λ x. affords-le a (leg-payment st (i .order) e) x m
       }
 
--- what a round leaves, of the instructions is, after the journal j
-pub record Rounded (st : Setting) (f : Funds) (days : List ℕ) (s : Standing) (ns : List Instruction) (next : ℕ) (is : List Instruction) (j : Journal) (r : List Instruction × List Movement) : Type 0 where
+-- what a round leaves after the journal j
+pub record Rounded (st : Setting) (f : Funds) (days : List ℕ) (s : Standing) (ns : List Instruction) (next : ℕ) (j : Journal) (r : List Instruction × List Movement) : Type 0 where
   pub fit : All (Fit days s (j ++ r .1)) (r .0)
   pub shown : Shown f (reads f (j ++ r .1)) (j ++ r .1)
   pub proper : All (Proper st ns next) (r .1)
@@ -221,8 +220,8 @@ module _ (st : Setting) (f : Funds) (days : List ℕ) (s : Standing) (bs : List 
 
   module _ (i : Instruction) (is : List Instruction) (j : Journal) (a : Amounts) (h : Shown f a j) (w : All (Fit days s j) (i ∷ is))
     (k : Known st (i .order)) (m : Listed ns (bare i))
-    (ih : (j : Journal) (a : Amounts) → Shown f a j → All (Fit days s j) is → Rounded st f days s ns next is j (rounds st (s .day) bs is a)) where
-    waited : (x : Instruction) → Fit days s j x → Rounded st f days s ns next (i ∷ is) j (x ∷ rounds st (s .day) bs is a .0, rounds st (s .day) bs is a .1)
+    (ih : (j : Journal) (a : Amounts) → Shown f a j → All (Fit days s j) is → Rounded st f days s ns next j (rounds st (s .day) bs is a)) where
+    waited : (x : Instruction) → Fit days s j x → Rounded st f days s ns next j (x ∷ rounds st (s .day) bs is a .0, rounds st (s .day) bs is a .1)
     waited x g =
         let y = ih j a h (w .1) in
         record
@@ -233,7 +232,7 @@ module _ (st : Setting) (f : Funds) (days : List ℕ) (s : Standing) (bs : List 
           }
 
     went : (e : Leg) → Ready (s .day) i e → leb (i .order .nominal) (free a bs (giver (i .order) e)) ≡ true
-        → affords a (leg-payment st (i .order) e) ≡ true → Rounded st f days s ns next (i ∷ is) j (after-try is a i (settles e))
+        → affords a (leg-payment st (i .order) e) ≡ true → Rounded st f days s ns next j (after-try is a i (settles e))
     went e r n c =
         let v : Movement = leg st (s .day) i e in
         let x : Instruction = tried i (settles e) in
@@ -249,7 +248,7 @@ module _ (st : Setting) (f : Funds) (days : List ℕ) (s : Standing) (bs : List 
           ; returns = (ready-behind j i e (w .0) r, y .returns)
           }
 
-    one-more : Rounded st f days s ns next (i ∷ is) j (rounds st (s .day) bs (i ∷ is) a)
+    one-more : Rounded st f days s ns next j (rounds st (s .day) bs (i ∷ is) a)
     one-more =
         try-both
         st
@@ -257,7 +256,7 @@ module _ (st : Setting) (f : Funds) (days : List ℕ) (s : Standing) (bs : List 
         bs
         a
         i
-        (λ t. Rounded st f days s ns next (i ∷ is) j (after-try is a i t))
+        (λ t. Rounded st f days s ns next j (after-try is a i t))
         (λ _ _. waited i (w .0))
         (λ _ _ _. waited (turned i (i .fate) (Some NominalShort)) (w .0))
         (λ _ _ _ _. waited (turned i (i .fate) (Some MoneyShort)) (w .0))
@@ -265,6 +264,6 @@ module _ (st : Setting) (f : Funds) (days : List ℕ) (s : Standing) (bs : List 
 
   pub rounded : (is : List Instruction) (j : Journal) (a : Amounts) → Shown f a j → All (Fit days s j) is
       → All (λ x. Known st (x .order)) (bares is) → All (Listed ns) (bares is)
-      → Rounded st f days s ns next is j (rounds st (s .day) bs is a)
+      → Rounded st f days s ns next j (rounds st (s .day) bs is a)
   rounded [] j a h w k m = record { fit = tt; shown = rw append-nil (reads-shown f a j h); proper = tt; returns = tt }
   rounded (i ∷ is) j a h w k m = one-more i is j a h w (k .0) (m .0) (λ j′ a′ h′ w′. rounded is j′ a′ h′ w′ (k .1) (m .1))

@@ -1,11 +1,11 @@
 -- What closing refuses was short at its last try, when the legs of lower serials had settled.
 use mathlib.Core.Path.{_≡_, refl, ap, sym, subst, _∙_}
-use mathlib.Core.List.{List, [], _∷_, _++_, map}
-use mathlib.Core.Bool.{Bool, true, false, cond, not, _&&_, _||_}
-use mathlib.Core.Logic.{_⊎_, inl, inr}
-use Prim.Native.Nat.{ℕ, _+_, _-_, _≤_, _<_}
+use mathlib.Core.List.{List, [], _∷_, _++_}
+use mathlib.Core.Bool.{Bool, true, false, cond, _&&_}
+use mathlib.Core.Logic.{inl, inr}
+use Prim.Native.Nat.{ℕ, _≤_, _<_}
 use native.Mathlib.Omega.{arith}
-use lib.Dec.{eqb, leb}
+use lib.Dec.{eqb}
 use Rattle.std.specs.declared.option.Option.{Option}
 use Rattle.std.specs.declared.option.Option.the-variants.{Some, None}
 use Rattle.std.specs.declared.result.Result.the-variants.{Ok, Err}
@@ -16,23 +16,22 @@ use Rattle.std.proofs.shelf.Tests.{cond-both, cond-false, and-parts, both-ways,
 use Rattle.refusals.specs.declared.Refusal.{Refusal}
 use Rattle.refusals.specs.declared.Refusal.the-variants.{WrongState, NominalShort, MoneyShort}
 use Rattle.calendar.specs.declared.Date.{Date}
-use Rattle.money.specs.Funds.{Funds}
 use Rattle.rulebook.specs.declared.Order.{Order}
 use Rattle.rulebook.specs.declared.Fate.{Fate}
 use Rattle.rulebook.specs.declared.Fate.the-variants as fate
 use Rattle.rulebook.specs.declared.Call.{Call}
 use Rattle.rulebook.specs.declared.Call.the-variants as call
 use Rattle.rulebook.specs.declared.Answer.the-variants as answer
-use Rattle.rulebook.specs.States.{shut, on-a-day, on-no-day, Standing}
-use Rattle.rulebook.specs.Words.{Leg, first, return, Movement, Amounts, after, afters, Blocking, Instruction, turned, alike, Setting, Book, Start, free}
+use Rattle.rulebook.specs.States.{on-a-day, on-no-day, Standing}
+use Rattle.rulebook.specs.Words.{Leg, first, return, Movement, Amounts, afters, Blocking, Instruction, turned, alike, Setting, Start, free}
 use Rattle.rulebook.specs.Checks.{affords, is-on-a-day}
 use Rattle.rulebook.specs.Rounds.{giver, leg-payment, leg, is-day, Try, idle, waits, settles, try, settled-one, tried, try-moves, rounds, moved-to, is-leg-refused, ended, ended-all}
 use Rattle.rulebook.specs.Rules.{Outcome, does, ruled, legs-done, rounded as round-of, closing-list, shuts, close-work}
-use Rattle.rulebook.specs.Journal.{Journal, reads, setting-of, Past, outcome, step, history}
+use Rattle.rulebook.specs.Journal.{Journal, reads, setting-of, Past, outcome, history}
 use Rattle.rulebook.specs.Laws.{Sensible, was-matched, leg-date, leg-serial, last-leg, Short, Tried-last, Refused-short}
 use Rattle.rulebook.proofs.Covers.{Shown, shown-more, shown-reads}
-use Rattle.rulebook.proofs.Roll.{bare, bares, Climbs}
-use Rattle.rulebook.proofs.Fits.{value-of, Fits, Fit, fit-more}
+use Rattle.rulebook.proofs.Roll.{bares, Climbs}
+use Rattle.rulebook.proofs.Fits.{Fits, Fit, fit-more}
 use Rattle.rulebook.proofs.Settling.{Ready, try-both, later, Known, leg-covered, ready-date}
 use Rattle.rulebook.proofs.Course.{past-by, Kept, kept}
 
