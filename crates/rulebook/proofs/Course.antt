@@ -85,29 +85,29 @@ module _ (s : Start) where
     -- other fates
     turns : (se : Standing) (ys : List Instruction) → bares ys ≡ bares xs → All (Fit (s .days) se j) ys → Steady s se ys next j gone
     turns se ys e f =
-        record
-          { shown = h .shown
-          ; proper = subst (λ (l : List Instruction). All (Proper (setting-of s) (l ++ bares gone) next) j) (sym e) (h .proper)
-          ; known = subst (λ (l : List Instruction). All (λ x. Known (setting-of s) (x .order)) l) (sym e) (h .known)
-          ; fit = f
-          ; climbs = subst (λ (l : List Instruction). Climbs 0 l next) (sym e) (h .climbs)
-          ; counted = subst (λ (l : List Instruction). (n : ℕ) → total (λ x. one-if (has-serial n x)) (l ++ bares gone) ≤ one-if (ltb n next)) (sym e) (h .counted)
-          ; returns = h .returns
-          }
+        record {
+          shown = h .shown;
+          proper = subst (λ (l : List Instruction). All (Proper (setting-of s) (l ++ bares gone) next) j) (sym e) (h .proper);
+          known = subst (λ (l : List Instruction). All (λ x. Known (setting-of s) (x .order)) l) (sym e) (h .known);
+          fit = f;
+          climbs = subst (λ (l : List Instruction). Climbs 0 l next) (sym e) (h .climbs);
+          counted = subst (λ (l : List Instruction). (n : ℕ) → total (λ x. one-if (has-serial n x)) (l ++ bares gone) ≤ one-if (ltb n next)) (sym e) (h .counted);
+          returns = h .returns;
+        }
 
     -- more in the journal
     moves : (vs : List Movement) → Shown (s .funds) (reads (s .funds) (j ++ vs)) (j ++ vs) → All (Proper (setting-of s) (bares xs ++ bares gone) next) vs
         → Returns-behind j vs → Steady s sd xs next (j ++ vs) gone
     moves vs w p r =
-        record
-          { shown = w
-          ; proper = all-append _ j vs (h .proper) p
-          ; known = h .known
-          ; fit = all-weaker (Fit (s .days) sd j) (Fit (s .days) sd (j ++ vs)) (λ i. fit-more (s .days) sd j vs (i .serial) (i .order) (i .fate)) xs (h .fit)
-          ; climbs = h .climbs
-          ; counted = h .counted
-          ; returns = behind-append [] j vs (h .returns) r
-          }
+        record {
+          shown = w;
+          proper = all-append _ j vs (h .proper) p;
+          known = h .known;
+          fit = all-weaker (Fit (s .days) sd j) (Fit (s .days) sd (j ++ vs)) (λ i. fit-more (s .days) sd j vs (i .serial) (i .order) (i .fate)) xs (h .fit);
+          climbs = h .climbs;
+          counted = h .counted;
+          returns = behind-append [] j vs (h .returns) r;
+        }
 
   -- a round
   round : {sd : Standing} {xs : List Instruction} {next : ℕ} {j : Journal} {gone : List Instruction} → Steady s sd xs next j gone → (bs : List Blocking)
@@ -117,7 +117,7 @@ module _ (s : Start) where
       let a : Amounts = reads (s .funds) j in
       let r : List Instruction × List Movement = rounds (setting-of s) (sd .day) bs xs a in
       let y : Rounded (setting-of s) (s .funds) (s .days) sd ns next j r
-        = rounded (setting-of s) (s .funds) (s .days) sd bs ns next (h .counted) xs j a (h .shown) (h .fit) (h .known) (all-front (Listed ns) (bares xs) (bares gone) (member-le ns)) in
+      = rounded (setting-of s) (s .funds) (s .days) sd bs ns next (h .counted) xs j a (h .shown) (h .fit) (h .known) (all-front (Listed ns) (bares xs) (bares gone) (member-le ns)) in
       turns (moves h (r .1) (y .shown) (y .proper) (y .returns)) sd (r .0) (rounds-bare (setting-of s) (sd .day) bs xs a) (y .fit)
 
   -- a movement that is no leg
@@ -145,9 +145,10 @@ module _ (s : Start) where
   wider : (next : ℕ) (x : Instruction) (v : Movement) → x .serial ≡ next → Within (s .participants) next v
       → Within (s .participants) (next + 1) v × (one-if (carries-out (setting-of s) v x) ≡ 0)
   wider next x (placed d p n y) e w = (w, refl)
-  wider next x (settled d n l g r m y) e w =
-      ( (omega (arith, w .0), w .1)
-      , ap one-if (and-left (has-serial n x) _ (ne-eqb (x .serial) n (λ z. omega (arith, w .0)))))
+  wider next x (settled d n l g r m y) e w = (
+    (omega (arith, w .0), w .1),
+    ap one-if (and-left (has-serial n x) _ (ne-eqb (x .serial) n (λ z. omega (arith, w .0)))),
+  )
   wider next x (redeemed d p i u c y) e w = (w, refl)
 
   new-serial : (n next t : ℕ) → t ≤ one-if (ltb n next) → t + one-if (eqb next n) ≤ one-if (ltb n (next + 1))
@@ -157,34 +158,36 @@ module _ (s : Start) where
       → (x : Instruction) → x .serial ≡ next → Known (setting-of s) (x .order) → (ys : List Instruction) → bares ys ≡ bares xs ++ bare x ∷ []
       → All (Fit (s .days) sd j) ys → Steady s sd ys (next + 1) j gone
   joins {sd} {xs} {next} {j} {gone} h x e k ys b f =
-      record
-        { shown = h .shown
-        ; proper = all-weaker
+      record {
+        shown = h .shown;
+        proper = all-weaker
             (Proper (setting-of s) (bares xs ++ bares gone) next)
             (Proper (setting-of s) (bares ys ++ bares gone) (next + 1))
             (λ v p. let w = wider next (bare x) v e (p .0) in
-              (w .0, omega (arith, p .1, w .1, more (λ i. one-if (carries-out (setting-of s) v i)))))
+            (w .0, omega (arith, p .1, w .1, more (λ i. one-if (carries-out (setting-of s) v i)))))
             j
-            (h .proper)
-        ; known = subst (λ (l : List Instruction). All (λ i. Known (setting-of s) (i .order)) l) (sym b) (all-push _ (bares xs) (bare x) (h .known) k)
-        ; fit = f
-        ; climbs = subst (λ (l : List Instruction). Climbs 0 l (next + 1)) (sym b) up
-        ; counted = λ n. omega
-            (arith
-            , more (λ i. one-if (has-serial n i))
-            , new-serial n next (total (λ i. one-if (has-serial n i)) (bares xs ++ bares gone)) (h .counted n)
-            , ap (λ (m : ℕ). one-if (eqb m n)) e)
-        ; returns = h .returns
-        }
+            (h .proper);
+        known = subst (λ (l : List Instruction). All (λ i. Known (setting-of s) (i .order)) l) (sym b) (all-push _ (bares xs) (bare x) (h .known) k);
+        fit = f;
+        climbs = subst (λ (l : List Instruction). Climbs 0 l (next + 1)) (sym b) up;
+        counted = λ n. omega (
+          arith,
+          more (λ i. one-if (has-serial n i)),
+          new-serial n next (total (λ i. one-if (has-serial n i)) (bares xs ++ bares gone)) (h .counted n),
+          ap (λ (m : ℕ). one-if (eqb m n)) e,
+        );
+        returns = h .returns;
+      }
     where
       more : (g : Instruction → ℕ) → total g (bares ys ++ bares gone) ≡ total g (bares xs ++ bares gone) + g (bare x)
       more g =
-          omega
-          (arith
-          , ap (total g) (ap (λ (l : List Instruction). l ++ bares gone) b)
-          , total-append g (bares xs ++ bare x ∷ []) (bares gone)
-          , total-push g (bares xs) (bare x)
-          , total-append g (bares xs) (bares gone))
+          omega (
+            arith,
+            ap (total g) (ap (λ (l : List Instruction). l ++ bares gone) b),
+            total-append g (bares xs ++ bare x ∷ []) (bares gone),
+            total-push g (bares xs) (bare x),
+            total-append g (bares xs) (bares gone),
+          )
 
       up : Climbs 0 (bares xs ++ bare x ∷ []) (next + 1)
       up = subst (λ (n : ℕ). Climbs 0 (bares xs ++ bare x ∷ []) (n + 1)) e (climbs-push 0 (bares xs) (bare x) (subst (λ (n : ℕ). Climbs 0 (bares xs) n) (sym e) (h .climbs)))
@@ -198,20 +201,20 @@ module _ (s : Start) where
   opens-up : Sensible s → {sd : Standing} {xs : List Instruction} {next : ℕ} {j : Journal} {gone : List Instruction} → Steady s sd xs next j gone → sd .state ≡ shut
       → Steady s (opened (s .days) sd) (wake-all (opened (s .days) sd .day) [] (stayers xs)) next j (leavers xs ++ gone)
   opens-up w {sd} {xs} {next} {j} {gone} h e =
-      record
-        { shown = h .shown
-        ; proper = all-weaker
+      record {
+        shown = h .shown;
+        proper = all-weaker
             (Proper (setting-of s) (bares xs ++ bares gone) next)
             (Proper (setting-of s) (bares ys ++ bares (leavers xs ++ gone)) next)
             (λ v p. (p .0, omega (arith, p .1, whole (λ i. one-if (carries-out (setting-of s) v i)))))
             j
-            (h .proper)
-        ; known = subst (λ (l : List Instruction). All (λ i. Known (setting-of s) (i .order)) l) (sym b) (bare-passing _ _ xs (h .known))
-        ; fit = stayed-fit (s .days) sd j 0 (w .days) e xs (h .fit)
-        ; climbs = subst (λ (l : List Instruction). Climbs 0 l next) (sym b) (climbs-passing (λ i. not (leaves xs i)) 0 xs next (h .climbs))
-        ; counted = λ n. omega (arith, whole (λ i. one-if (has-serial n i)), h .counted n)
-        ; returns = h .returns
-        }
+            (h .proper);
+        known = subst (λ (l : List Instruction). All (λ i. Known (setting-of s) (i .order)) l) (sym b) (bare-passing _ _ xs (h .known));
+        fit = stayed-fit (s .days) sd j 0 (w .days) e xs (h .fit);
+        climbs = subst (λ (l : List Instruction). Climbs 0 l next) (sym b) (climbs-passing (λ i. not (leaves xs i)) 0 xs next (h .climbs));
+        counted = λ n. omega (arith, whole (λ i. one-if (has-serial n i)), h .counted n);
+        returns = h .returns;
+      }
     where
       ys : List Instruction
       ys = wake-all (opened (s .days) sd .day) [] (stayers xs)
@@ -221,17 +224,18 @@ module _ (s : Start) where
 
       whole : (g : Instruction → ℕ) → total g (bares ys ++ bares (leavers xs ++ gone)) ≡ total g (bares xs ++ bares gone)
       whole g =
-          omega
-          (arith
-          , total-append g (bares ys) (bares (leavers xs ++ gone))
-          , ap (total g) b
-          , ap (total g) (map-append bare (leavers xs) gone)
-          , total-append g (bares (leavers xs)) (bares gone)
-          , total-append g (bares xs) (bares gone)
-          , total-map g bare (stayers xs)
-          , total-map g bare (leavers xs)
-          , total-map g bare xs
-          , total-split (λ i. g (bare i)) (leaves xs) xs)
+          omega (
+            arith,
+            total-append g (bares ys) (bares (leavers xs ++ gone)),
+            ap (total g) b,
+            ap (total g) (map-append bare (leavers xs) gone),
+            total-append g (bares (leavers xs)) (bares gone),
+            total-append g (bares xs) (bares gone),
+            total-map g bare (stayers xs),
+            total-map g bare (leavers xs),
+            total-map g bare xs,
+            total-split (λ i. g (bare i)) (leaves xs) xs,
+          )
 
 -- the past after an outcome, if nothing leaves the list
 abbrev pub past-by : Past → Outcome → Past
@@ -262,82 +266,82 @@ module _ (s : Start) (w : Sensible s) (h : Past) (k : Kept s h) where
     where
       go : (b : Bool) → is-shut (h .book) ≡ b
           → let o : Outcome = ruled (cond b (Ok tt) (Err WrongState)) (does (answer.Opened (opening-day (setting-of s) (h .book))) (opens (setting-of s) (h .book)) []) in
-            Kept s record
-              { book = book-by (h .book) o
-              ; journal = h .journal ++ moves-by o
-              ; departed = cond b (leavers (h .book .instructions .standing)) [] ++ h .departed
-              }
+          Kept s record {
+            book = book-by (h .book) o;
+            journal = h .journal ++ moves-by o;
+            departed = cond b (leavers (h .book .instructions .standing)) [] ++ h .departed;
+          }
       go true e = quiet s (opens-up s w k (eqb-true (h .book .standing .state) shut e))
       go false e = quiet s k
 
   kept-place : (o : Placement) → Kept s (step s h (call.Placing o))
   kept-place o =
       by-checks (call.Placing o) λ p.
-        move
-        s
-        k
-        (placing (setting-of s) (h .book) o)
-        refl
-        (record { nominal = λ q. omega arith; funds = λ x. affords-le (reads (s .funds) (h .journal)) _ x (p .1 .1 .1 .1 .1 .1 .0) })
-        (knows-lt (setting-of s) (o .participant) (p .1 .0))
+      move
+      s
+      k
+      (placing (setting-of s) (h .book) o)
+      refl
+      (record { nominal = λ q. omega arith; funds = λ x. affords-le (reads (s .funds) (h .journal)) _ x (p .1 .1 .1 .1 .1 .1 .0) })
+      (knows-lt (setting-of s) (o .participant) (p .1 .0))
 
   kept-redeem : (i p : ℕ) → Kept s (step s h (call.Redeeming i p))
   kept-redeem i p =
       by-checks (call.Redeeming i p) λ c.
-        move
-        s
-        k
-        (redeeming (setting-of s) (reads (s .funds) (h .journal)) (h .book) i p)
-        refl
-        (record
-          { nominal = λ q. two-at (reads (s .funds) (h .journal) .nominal) p i _ _ q (omega arith) (omega arith)
-          ; funds = λ x. affords-le (reads (s .funds) (h .journal)) _ x (c .1 .1 .1 .1 .1 .0)
-          })
-        (knows-lt (setting-of s) p (c .1 .0))
+      move
+      s
+      k
+      (redeeming (setting-of s) (reads (s .funds) (h .journal)) (h .book) i p)
+      refl
+      (record {
+        nominal = λ q. two-at (reads (s .funds) (h .journal) .nominal) p i _ _ q (omega arith) (omega arith);
+        funds = λ x. affords-le (reads (s .funds) (h .journal)) _ x (c .1 .1 .1 .1 .1 .0);
+      })
+      (knows-lt (setting-of s) p (c .1 .0))
 
   kept-instruct : (o : Order) → Kept s (step s h (call.Instructing o))
   kept-instruct o =
       by-checks (call.Instructing o) λ c.
-        let on : h .book .standing .state ≡ on-a-day = eqb-true (h .book .standing .state) on-a-day (c .0) in
-        let ends = and-parts (knows (setting-of s) (o .transferor)) (knows (setting-of s) (o .acquirer)) (c .1 .0) in
-        let dates = and-parts _ (return-date-fits (setting-of s) (value-of o) (matures (h .book) (o .issue)) (o .«return_date»)) (c .1 .1 .1 .1 .0) in
-        let value = and-parts (is-business (value-of o) (s .days)) _ (dates .0) in
-        let low : h .book .standing .day ≤ value-of o = leb-true (h .book .standing .day) (value-of o) (and-parts _ _ (value .1) .0) in
-        quiet
-        s
-        (joins
-         s
-         k
-         (incoming (h .book) o)
-         refl
-         (record
-           { transferor = knows-lt (setting-of s) (o .transferor) (ends .0)
-           ; acquirer = knows-lt (setting-of s) (o .acquirer) (ends .1)
-           ; return = return-later (setting-of s) (value-of o) (matures (h .book) (o .issue)) (o .«return_date») (dates .1)
-           })
-         (arrive (today (h .book)) (h .book .instructions .standing) (incoming (h .book) o))
-         (arrive-bare (today (h .book)) (h .book .instructions .standing) (incoming (h .book) o))
-         (arrive-fit
-          (s .days)
-          (h .book .standing)
-          (h .journal)
-          (h .book .instructions .standing)
-          (incoming (h .book) o)
-          ((λ e. (omega (arith, leb-true (value-of o) (h .book .standing .day) e), on)), value .0)
-          (k .fit)))
+      let on : h .book .standing .state ≡ on-a-day = eqb-true (h .book .standing .state) on-a-day (c .0) in
+      let ends = and-parts (knows (setting-of s) (o .transferor)) (knows (setting-of s) (o .acquirer)) (c .1 .0) in
+      let dates = and-parts _ (return-date-fits (setting-of s) (value-of o) (matures (h .book) (o .issue)) (o .«return_date»)) (c .1 .1 .1 .1 .0) in
+      let value = and-parts (is-business (value-of o) (s .days)) _ (dates .0) in
+      let low : h .book .standing .day ≤ value-of o = leb-true (h .book .standing .day) (value-of o) (and-parts _ _ (value .1) .0) in
+      quiet
+      s
+      (joins
+      s
+      k
+      (incoming (h .book) o)
+      refl
+      (record {
+        transferor = knows-lt (setting-of s) (o .transferor) (ends .0);
+        acquirer = knows-lt (setting-of s) (o .acquirer) (ends .1);
+        return = return-later (setting-of s) (value-of o) (matures (h .book) (o .issue)) (o .«return_date») (dates .1);
+      })
+      (arrive (today (h .book)) (h .book .instructions .standing) (incoming (h .book) o))
+      (arrive-bare (today (h .book)) (h .book .instructions .standing) (incoming (h .book) o))
+      (arrive-fit
+      (s .days)
+      (h .book .standing)
+      (h .journal)
+      (h .book .instructions .standing)
+      (incoming (h .book) o)
+      ((λ e. (omega (arith, leb-true (value-of o) (h .book .standing .day) e), on)), value .0)
+      (k .fit)))
 
   kept-cancel : (p n : ℕ) → Kept s (step s h (call.Cancelling p n))
   kept-cancel p n =
       by-checks (call.Cancelling p n) λ c.
-        quiet
-        s
-        (turns
-         s
-         k
-         (h .book .standing)
-         (cancelled-in p n (h .book .instructions .standing))
-         (cancelled-bare p n (h .book .instructions .standing))
-         (cancelled-fit (s .days) (h .book .standing) (h .journal) p n (h .book .instructions .standing) (k .fit)))
+      quiet
+      s
+      (turns
+      s
+      k
+      (h .book .standing)
+      (cancelled-in p n (h .book .instructions .standing))
+      (cancelled-bare p n (h .book .instructions .standing))
+      (cancelled-fit (s .days) (h .book .standing) (h .journal) p n (h .book .instructions .standing) (k .fit)))
 
   kept-round : Kept s (step s h call.Round)
   kept-round = by-checks call.Round λ c. round s k (h .book .blockings .standing)
@@ -345,17 +349,17 @@ module _ (s : Start) (w : Sensible s) (h : Past) (k : Kept s h) where
   kept-close : Kept s (step s h call.Closing)
   kept-close =
       by-checks call.Closing λ c.
-        cond-both
-        (eqb (h .book .standing .state) on-no-day)
-        _
-        _
-        (λ o. Kept s (past-by h o))
-        (λ e. quiet s (turns s k (closed (h .book .standing)) (h .book .instructions .standing) refl
-          (idle-fit (s .days) (h .book .standing) (h .journal) (eqb-true (h .book .standing .state) on-no-day e) (h .book .instructions .standing) (k .fit))))
-        (λ e. let r = round s k (h .book .blockings .standing) in
-          turns s r (closed (h .book .standing)) (closing-list (setting-of s) (reads (s .funds) (h .journal)) (h .book))
-            (ended-bare (today (h .book)) (round-of (setting-of s) (reads (s .funds) (h .journal)) (h .book) .0))
-            (ended-fit (s .days) (h .book .standing) _ _ (r .fit)))
+      cond-both
+      (eqb (h .book .standing .state) on-no-day)
+      _
+      _
+      (λ o. Kept s (past-by h o))
+      (λ e. quiet s (turns s k (closed (h .book .standing)) (h .book .instructions .standing) refl
+      (idle-fit (s .days) (h .book .standing) (h .journal) (eqb-true (h .book .standing .state) on-no-day e) (h .book .instructions .standing) (k .fit))))
+      (λ e. let r = round s k (h .book .blockings .standing) in
+      turns s r (closed (h .book .standing)) (closing-list (setting-of s) (reads (s .funds) (h .journal)) (h .book))
+      (ended-bare (today (h .book)) (round-of (setting-of s) (reads (s .funds) (h .journal)) (h .book) .0))
+      (ended-fit (s .days) (h .book .standing) _ _ (r .fit)))
 
   pub kept-step : (c : Call) → Kept s (step s h c)
   kept-step call.Opening = kept-open
@@ -373,15 +377,15 @@ module _ (s : Start) (w : Sensible s) (h : Past) (k : Kept s h) where
 
 kept-new : (s : Start) → Kept s new-past
 kept-new s =
-    record
-      { shown = record { nominal = λ p. refl; balance = λ x. omega arith }
-      ; proper = tt
-      ; known = tt
-      ; fit = tt
-      ; climbs = omega arith
-      ; counted = λ n. omega arith
-      ; returns = tt
-      }
+    record {
+      shown = record { nominal = λ p. refl; balance = λ x. omega arith };
+      proper = tt;
+      known = tt;
+      fit = tt;
+      climbs = omega arith;
+      counted = λ n. omega arith;
+      returns = tt;
+    }
 
 kept-from : (s : Start) → Sensible s → (h : Past) → Kept s h → (cs : List Call) → Kept s (history-from s h cs)
 kept-from s w h k [] = k

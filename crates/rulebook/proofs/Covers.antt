@@ -28,10 +28,10 @@ pub record Covered (a : Amounts) (v : Movement) : Type 0 where
 
 pub shown-more : (f : Funds) (a : Amounts) (j : Journal) (v : Movement) → Shown f a j → Covered a v → Shown f (after v a) (j ++ v ∷ [])
 shown-more f a j v h c =
-    record
-      { nominal = λ p. omega (arith, h .nominal p, c .nominal p, total-push (λ w. takes w p) j v, total-push (λ w. brings w p) j v)
-      ; balance = λ x. omega (arith, h .balance x, c .funds x, total-push (λ w. out-of (money w) x) j v, total-push (λ w. into (money w) x) j v)
-      }
+    record {
+      nominal = λ p. omega (arith, h .nominal p, c .nominal p, total-push (λ w. takes w p) j v, total-push (λ w. brings w p) j v);
+      balance = λ x. omega (arith, h .balance x, c .funds x, total-push (λ w. out-of (money w) x) j v, total-push (λ w. into (money w) x) j v);
+    }
 
 -- such amounts are what the journal reads
 pub shown-reads : (f : Funds) (a : Amounts) (j : Journal) → Shown f a j → a ≡ reads f j
@@ -73,14 +73,14 @@ two-at f p i u c q hu hc =
     0
     (λ n. n + at (place p i Customer) c q ≤ f q)
     (λ e. cond-both
-      (same (place p i Customer) q)
-      c
-      0
-      (λ n. u + n ≤ f q)
-      (λ d. let z : Own ≡ Customer = ap (λ (w : Place). w .side) (same-true (place p i Own) q e ∙ sym (same-true (place p i Customer) q d)) in
-      let w : _≡_ {A = ℕ} 0 1 = cc in
-      omega arith)
-      (λ _. let h : u ≤ f q = rw (← same-true (place p i Own) q e) hu in omega arith))
+    (same (place p i Customer) q)
+    c
+    0
+    (λ n. u + n ≤ f q)
+    (λ d. let z : Own ≡ Customer = ap (λ (w : Place). w .side) (same-true (place p i Own) q e ∙ sym (same-true (place p i Customer) q d)) in
+    let w : _≡_ {A = ℕ} 0 1 = cc in
+    omega arith)
+    (λ _. let h : u ≤ f q = rw (← same-true (place p i Own) q e) hu in omega arith))
     (λ _. omega (arith, at-le f (place p i Customer) q c hc))
 
 pub affords-le : (a : Amounts) (y : Option Payment) (x : ℕ) → affords a y ≡ true → out-of y x ≤ a .balance x

@@ -167,12 +167,12 @@ module _ (days : List ℕ) (s : Standing) (j : Journal) where
       (wake (s .day) xs i)
       is
       (cond-both
-       (alike (i .fate) fate.Kept)
-       (arrive (s .day) xs i)
-       (xs ++ i ∷ [])
-       (λ l. All (Fit days s j) l)
-       (λ e. arrive-fit xs i (w .0 .0 e) h)
-       (λ e. all-push (Fit days s j) xs i h (w .0 .1 e)))
+      (alike (i .fate) fate.Kept)
+      (arrive (s .day) xs i)
+      (xs ++ i ∷ [])
+      (λ l. All (Fit days s j) l)
+      (λ e. arrive-fit xs i (w .0 .0 e) h)
+      (λ e. all-push (Fit days s j) xs i h (w .0 .1 e)))
       (w .1)
 
   pub cancelled-fit : (p n : ℕ) (xs : List Instruction) → All (Fit days s j) xs → All (Fit days s j) (cancelled-in p n xs)
@@ -189,18 +189,18 @@ module _ (days : List ℕ) (s : Standing) (j : Journal) where
       (Fit days (closed s) j)
       (λ _. refl)
       (λ u. cond-both
-        (alike (i .fate) fate.Matched)
-        _
-        _
-        (Fit days (closed s) j)
-        (λ _. refl)
-        (λ m. cond-both
-          (alike (i .fate) fate.RepoOut && is-day (s .day) (i .order .«return_date»))
-          _
-          _
-          (Fit days (closed s) j)
-          (λ _. refl)
-          (λ _. fit-shut days s j (i .serial) (i .order) (i .fate) u m h)))
+      (alike (i .fate) fate.Matched)
+      _
+      _
+      (Fit days (closed s) j)
+      (λ _. refl)
+      (λ m. cond-both
+      (alike (i .fate) fate.RepoOut && is-day (s .day) (i .order .«return_date»))
+      _
+      _
+      (Fit days (closed s) j)
+      (λ _. refl)
+      (λ _. fit-shut days s j (i .serial) (i .order) (i .fate) u m h)))
 
   pub ended-fit : (xs : List Instruction) → All (Fit days s j) xs → All (Fit days (closed s) j) (ended-all (s .day) xs)
   ended-fit [] h = tt

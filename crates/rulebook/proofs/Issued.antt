@@ -59,19 +59,21 @@ cond-plus b u c = grind arith
 flow : (n next i : ℕ) (v : Movement) → Within n next v → spread n i (brings v) + redeems i v ≡ spread n i (takes v) + places i v
 flow n next i (placed d p m y) w = omega (arith, spread-at n i p m w, spread-none n i)
 flow n next i (settled d k l g r m y) w =
-    omega
-    (arith
-    , spread-at n i r m (w .1 .1)
-    , spread-at n i g m (w .1 .0)
-    , ap (λ (x : ℕ). cond (eqb x i) m 0) (w .1 .2))
+    omega (
+      arith,
+      spread-at n i r m (w .1 .1),
+      spread-at n i g m (w .1 .0),
+      ap (λ (x : ℕ). cond (eqb x i) m 0) (w .1 .2),
+    )
 flow n next i (redeemed d p k u c y) w =
-    omega
-    (arith
-    , spread-none n i
-    , spread-plus n i (at (place p k Own) u) (at (place p k Customer) c)
-    , spread-at n i (place p k Own) u w
-    , spread-at n i (place p k Customer) c w
-    , cond-plus (eqb k i) u c)
+    omega (
+      arith,
+      spread-none n i,
+      spread-plus n i (at (place p k Own) u) (at (place p k Customer) c),
+      spread-at n i (place p k Own) u w,
+      spread-at n i (place p k Customer) c w,
+      cond-plus (eqb k i) u c,
+    )
 
 flows : (n next i : ℕ) (j : Journal) → All (Within n next) j
     → total (λ v. spread n i (brings v)) j + total (redeems i) j ≡ total (λ v. spread n i (takes v)) j + total (places i) j
@@ -80,15 +82,16 @@ flows n next i (v ∷ j) w = omega (arith, flow n next i v (w .0), flows n next 
 
 pub issued-holds : (s : Start) → Sensible s → (cs : List Call) → (i : ℕ)
     → outstanding (setting-of s) (reads (s .funds) (history s cs .journal)) i + total (redeems i) (history s cs .journal)
-      ≡ total (places i) (history s cs .journal)
+    ≡ total (places i) (history s cs .journal)
 issued-holds s w cs i =
     let j : Journal = history s cs .journal in
     let n : ℕ = s .participants in
     let k = kept s w cs in
-    omega
-    (arith
-    , spread-same n i (λ q. reads (s .funds) j .nominal q + taken j q) (brought j) (k .shown .nominal)
-    , spread-plus n i (reads (s .funds) j .nominal) (taken j)
-    , spread-total n i takes j
-    , spread-total n i brings j
-    , flows n (history s cs .book .instructions .next) i j (all-weaker _ _ (λ _ p. p .0) j (k .proper)))
+    omega (
+      arith,
+      spread-same n i (λ q. reads (s .funds) j .nominal q + taken j q) (brought j) (k .shown .nominal),
+      spread-plus n i (reads (s .funds) j .nominal) (taken j),
+      spread-total n i takes j,
+      spread-total n i brings j,
+      flows n (history s cs .book .instructions .next) i j (all-weaker _ _ (λ _ p. p .0) j (k .proper)),
+    )

@@ -21,15 +21,15 @@ carries-bare st (redeemed d p k u c y) i = refl
 
 pub legs-holds : (s : Start) → Sensible s → (cs : List Call)
     → All
-      (λ v. total (λ i. one-if (carries-out (setting-of s) v i)) (accepted (history s cs)) ≡ one-if (is-settlement v))
-      (history s cs .journal)
+    (λ v. total (λ i. one-if (carries-out (setting-of s) v i)) (accepted (history s cs)) ≡ one-if (is-settlement v))
+    (history s cs .journal)
 legs-holds s w cs =
     all-weaker
     _
     _
     (λ v p. total-bare (λ i. one-if (carries-out (setting-of s) v i)) (carries-bare (setting-of s) v) (accepted h)
-      ∙ ap (total (λ i. one-if (carries-out (setting-of s) v i))) (map-append bare (h .book .instructions .standing) (h .departed))
-      ∙ p .1)
+    ∙ ap (total (λ i. one-if (carries-out (setting-of s) v i))) (map-append bare (h .book .instructions .standing) (h .departed))
+    ∙ p .1)
     (h .journal)
     (kept s w cs .proper)
   where

@@ -48,8 +48,8 @@ admit-bare xs i =
     (λ l. bares l ≡ bares xs ++ bare i ∷ [])
     (λ _. map-push bare xs (turned i fate.Matched None))
     (λ _. map-push bare (pair-up (i .order) xs .0) (met i (pair-up (i .order) xs .1))
-      ∙ ap (λ b. bares (pair-up (i .order) xs .0) ++ b ∷ []) (met-bare i (pair-up (i .order) xs .1))
-      ∙ ap (λ l. l ++ bare i ∷ []) (pair-up-bare (i .order) xs))
+    ∙ ap (λ b. bares (pair-up (i .order) xs .0) ++ b ∷ []) (met-bare i (pair-up (i .order) xs .1))
+    ∙ ap (λ l. l ++ bare i ∷ []) (pair-up-bare (i .order) xs))
 
 pub arrive-bare : (d : ℕ) (xs : List Instruction) (i : Instruction) → bares (arrive d xs i) ≡ bares xs ++ bare i ∷ []
 arrive-bare d xs i =
@@ -84,12 +84,12 @@ end-bare d i =
     (λ x. bare x ≡ bare i)
     (λ _. refl)
     (λ _. cond-both
-      (alike (i .fate) fate.Matched)
-      _
-      _
-      (λ x. bare x ≡ bare i)
-      (λ _. refl)
-      (λ _. cond-both (alike (i .fate) fate.RepoOut && is-day d (i .order .«return_date»)) _ _ (λ x. bare x ≡ bare i) (λ _. refl) (λ _. refl)))
+    (alike (i .fate) fate.Matched)
+    _
+    _
+    (λ x. bare x ≡ bare i)
+    (λ _. refl)
+    (λ _. cond-both (alike (i .fate) fate.RepoOut && is-day d (i .order .«return_date»)) _ _ (λ x. bare x ≡ bare i) (λ _. refl) (λ _. refl)))
 
 pub ended-bare : (d : ℕ) (xs : List Instruction) → bares (ended-all d xs) ≡ bares xs
 ended-bare d [] = refl

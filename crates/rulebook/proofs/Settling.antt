@@ -49,20 +49,20 @@ due-both d i P n s =
     P
     (λ m. s first (is-matched (i .fate) m))
     (λ m. cond-both
-      (alike (i .fate) fate.RepoOut && is-day d (i .order .«return_date»))
-      (Some return)
-      None
-      P
-      (λ o. let h = and-parts (alike (i .fate) fate.RepoOut) _ o in s return (is-out (i .fate) (h .0), h .1))
-      (λ o. n m o))
+    (alike (i .fate) fate.RepoOut && is-day d (i .order .«return_date»))
+    (Some return)
+    None
+    P
+    (λ o. let h = and-parts (alike (i .fate) fate.RepoOut) _ o in s return (is-out (i .fate) (h .0), h .1))
+    (λ o. n m o))
 
 -- the ways of a try
 module _ (st : Setting) (d : ℕ) (bs : List Blocking) (a : Amounts) (i : Instruction) (P : Try → Type 0)
-  (no-leg : alike (i .fate) fate.Matched ≡ false → alike (i .fate) fate.RepoOut && is-day d (i .order .«return_date») ≡ false → P idle)
-  (no-nominal : (e : Leg) → Ready d i e → leb (i .order .nominal) (free a bs (giver (i .order) e)) ≡ false → P (waits NominalShort))
-  (no-money : (e : Leg) → Ready d i e → leb (i .order .nominal) (free a bs (giver (i .order) e)) ≡ true
+    (no-leg : alike (i .fate) fate.Matched ≡ false → alike (i .fate) fate.RepoOut && is-day d (i .order .«return_date») ≡ false → P idle)
+    (no-nominal : (e : Leg) → Ready d i e → leb (i .order .nominal) (free a bs (giver (i .order) e)) ≡ false → P (waits NominalShort))
+    (no-money : (e : Leg) → Ready d i e → leb (i .order .nominal) (free a bs (giver (i .order) e)) ≡ true
     → affords a (leg-payment st (i .order) e) ≡ false → P (waits MoneyShort))
-  (done : (e : Leg) → Ready d i e → leb (i .order .nominal) (free a bs (giver (i .order) e)) ≡ true
+    (done : (e : Leg) → Ready d i e → leb (i .order .nominal) (free a bs (giver (i .order) e)) ≡ true
     → affords a (leg-payment st (i .order) e) ≡ true → P (settles e)) where
   pub try-both : P (try st d bs a i)
   try-both =
@@ -72,12 +72,12 @@ module _ (st : Setting) (d : ℕ) (bs : List Blocking) (a : Amounts) (i : Instru
       (λ l. P (try-leg st a bs (i .order) l))
       no-leg
       (λ e r. cond-both
-        (leb (i .order .nominal) (free a bs (giver (i .order) e)))
-        (cond (affords a (leg-payment st (i .order) e)) (settles e) (waits MoneyShort))
-        (waits NominalShort)
-        P
-        (λ n. cond-both (affords a (leg-payment st (i .order) e)) (settles e) (waits MoneyShort) P (λ m. done e r n m) (λ m. no-money e r n m))
-        (λ n. no-nominal e r n))
+      (leb (i .order .nominal) (free a bs (giver (i .order) e)))
+      (cond (affords a (leg-payment st (i .order) e)) (settles e) (waits MoneyShort))
+      (waits NominalShort)
+      P
+      (λ n. cond-both (affords a (leg-payment st (i .order) e)) (settles e) (waits MoneyShort) P (λ m. done e r n m) (λ m. no-money e r n m))
+      (λ n. no-nominal e r n))
 
 -- movements are among known participants, and legs have known serials and move within one issue
 abbrev pub Within : ℕ → ℕ → Movement → Type 0
@@ -181,10 +181,10 @@ ready-date days s j i return h r = day-true (s .day) (i .order .«return_date»)
 pub leg-covered : (st : Setting) (d : ℕ) (bs : List Blocking) (a : Amounts) (i : Instruction) (e : Leg)
     → leb (i .order .nominal) (free a bs (giver (i .order) e)) ≡ true → affords a (leg-payment st (i .order) e) ≡ true → Covered a (leg st d i e)
 leg-covered st d bs a i e n m =
-    record
-      { nominal = λ p. at-le (a .nominal) (giver (i .order) e) p (i .order .nominal) (omega (arith, leb-true (i .order .nominal) (free a bs (giver (i .order) e)) n))
-      ; funds = λ x. affords-le a (leg-payment st (i .order) e) x m
-      }
+    record {
+      nominal = λ p. at-le (a .nominal) (giver (i .order) e) p (i .order .nominal) (omega (arith, leb-true (i .order .nominal) (free a bs (giver (i .order) e)) n));
+      funds = λ x. affords-le a (leg-payment st (i .order) e) x m;
+    }
 
 -- what a round leaves after the journal j
 pub record Rounded (st : Setting) (f : Funds) (days : List ℕ) (s : Standing) (ns : List Instruction) (next : ℕ) (j : Journal) (r : List Instruction × List Movement) : Type 0 where
@@ -194,7 +194,7 @@ pub record Rounded (st : Setting) (f : Funds) (days : List ℕ) (s : Standing) (
   pub returns : Returns-behind j (r .1)
 
 module _ (st : Setting) (f : Funds) (days : List ℕ) (s : Standing) (bs : List Blocking) (ns : List Instruction) (next : ℕ)
-  (u : (n : ℕ) → total (λ x. one-if (has-serial n x)) ns ≤ one-if (ltb n next)) where
+    (u : (n : ℕ) → total (λ x. one-if (has-serial n x)) ns ≤ one-if (ltb n next)) where
   -- a return has its first leg before it
   ready-behind : (j : Journal) (i : Instruction) (e : Leg) → Fit days s j i → Ready (s .day) i e
       → (n : ℕ) → times (leg st (s .day) i e ∷ []) n return ≤ times j n first
@@ -214,22 +214,23 @@ module _ (st : Setting) (f : Funds) (days : List ℕ) (s : Standing) (bs : List 
   settled-fit j i return d = tt
 
   abbrev after-try : List Instruction → Amounts → Instruction → Try → List Instruction × List Movement
-  after-try is a i t =
-      ( tried i t ∷ rounds st (s .day) bs is (afters (try-moves st (s .day) i t) a) .0
-      , try-moves st (s .day) i t ++ rounds st (s .day) bs is (afters (try-moves st (s .day) i t) a) .1)
+  after-try is a i t = (
+    tried i t ∷ rounds st (s .day) bs is (afters (try-moves st (s .day) i t) a) .0,
+    try-moves st (s .day) i t ++ rounds st (s .day) bs is (afters (try-moves st (s .day) i t) a) .1,
+  )
 
   module _ (i : Instruction) (is : List Instruction) (j : Journal) (a : Amounts) (h : Shown f a j) (w : All (Fit days s j) (i ∷ is))
-    (k : Known st (i .order)) (m : Listed ns (bare i))
-    (ih : (j : Journal) (a : Amounts) → Shown f a j → All (Fit days s j) is → Rounded st f days s ns next j (rounds st (s .day) bs is a)) where
+      (k : Known st (i .order)) (m : Listed ns (bare i))
+      (ih : (j : Journal) (a : Amounts) → Shown f a j → All (Fit days s j) is → Rounded st f days s ns next j (rounds st (s .day) bs is a)) where
     waited : (x : Instruction) → Fit days s j x → Rounded st f days s ns next j (x ∷ rounds st (s .day) bs is a .0, rounds st (s .day) bs is a .1)
     waited x g =
         let y = ih j a h (w .1) in
-        record
-          { fit = (fit-more days s j (rounds st (s .day) bs is a .1) (x .serial) (x .order) (x .fate) g, y .fit)
-          ; shown = y .shown
-          ; proper = y .proper
-          ; returns = y .returns
-          }
+        record {
+          fit = (fit-more days s j (rounds st (s .day) bs is a .1) (x .serial) (x .order) (x .fate) g, y .fit);
+          shown = y .shown;
+          proper = y .proper;
+          returns = y .returns;
+        }
 
     went : (e : Leg) → Ready (s .day) i e → leb (i .order .nominal) (free a bs (giver (i .order) e)) ≡ true
         → affords a (leg-payment st (i .order) e) ≡ true → Rounded st f days s ns next j (after-try is a i (settles e))
@@ -238,15 +239,15 @@ module _ (st : Setting) (f : Funds) (days : List ℕ) (s : Standing) (bs : List 
         let x : Instruction = tried i (settles e) in
         let rest : List Instruction × List Movement = rounds st (s .day) bs is (after v a) in
         let y = ih (j ++ v ∷ []) (after v a) (shown-more f a j v h (leg-covered st (s .day) bs a i e n c))
-          (all-weaker (Fit days s j) (Fit days s (j ++ v ∷ [])) (λ z. fit-more days s j (v ∷ []) (z .serial) (z .order) (z .fate)) is (w .1)) in
+        (all-weaker (Fit days s j) (Fit days s (j ++ v ∷ [])) (λ z. fit-more days s j (v ∷ []) (z .serial) (z .order) (z .fate)) is (w .1)) in
         let all : All (Fit days s ((j ++ v ∷ []) ++ rest .1)) (x ∷ rest .0)
-          = (fit-more days s (j ++ v ∷ []) (rest .1) (x .serial) (x .order) (x .fate) (settled-fit j i e (i .order .«return_date»)), y .fit) in
-        record
-          { fit = subst (λ (l : Journal). All (Fit days s l) (x ∷ rest .0)) (append-assoc j (v ∷ []) (rest .1)) all
-          ; shown = subst (λ (l : Journal). Shown f (reads f l) l) (append-assoc j (v ∷ []) (rest .1)) (y .shown)
-          ; proper = (leg-proper st ns next (s .day) i e u k m (ready-date days s j i e (w .0) r), y .proper)
-          ; returns = (ready-behind j i e (w .0) r, y .returns)
-          }
+        = (fit-more days s (j ++ v ∷ []) (rest .1) (x .serial) (x .order) (x .fate) (settled-fit j i e (i .order .«return_date»)), y .fit) in
+        record {
+          fit = subst (λ (l : Journal). All (Fit days s l) (x ∷ rest .0)) (append-assoc j (v ∷ []) (rest .1)) all;
+          shown = subst (λ (l : Journal). Shown f (reads f l) l) (append-assoc j (v ∷ []) (rest .1)) (y .shown);
+          proper = (leg-proper st ns next (s .day) i e u k m (ready-date days s j i e (w .0) r), y .proper);
+          returns = (ready-behind j i e (w .0) r, y .returns);
+        }
 
     one-more : Rounded st f days s ns next j (rounds st (s .day) bs (i ∷ is) a)
     one-more =

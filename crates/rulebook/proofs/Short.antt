@@ -65,18 +65,18 @@ untried d i n m o =
     (λ y. is-short y ≡ true → ⊥)
     (λ _ e. both-ways false refl e)
     (λ _. cond-both
-      (alike (i .fate) fate.Matched)
-      _
-      _
-      (λ y. is-short y ≡ true → ⊥)
-      (λ t. absurd (both-ways _ m t))
-      (λ _. cond-both
-        (alike (i .fate) fate.RepoOut && is-day d (i .order .«return_date»))
-        _
-        _
-        (λ y. is-short y ≡ true → ⊥)
-        (λ t. absurd (both-ways _ o t))
-        (λ _ e. n (and-parts (is-leg-refused (i .fate)) _ e .0))))
+    (alike (i .fate) fate.Matched)
+    _
+    _
+    (λ y. is-short y ≡ true → ⊥)
+    (λ t. absurd (both-ways _ m t))
+    (λ _. cond-both
+    (alike (i .fate) fate.RepoOut && is-day d (i .order .«return_date»))
+    _
+    _
+    (λ y. is-short y ≡ true → ⊥)
+    (λ t. absurd (both-ways _ o t))
+    (λ _ e. n (and-parts (is-leg-refused (i .fate)) _ e .0))))
 
 not-later : (n : ℕ) (r : Option Date) → later n r → is-day n r ≡ true → ⊥
 not-later n None l e = both-ways false refl e
@@ -133,11 +133,11 @@ rounds-above st d bs low (i ∷ is) high a c =
     _
     (go (try st d bs a i))
     (all-weaker
-     (λ v. i .serial < leg-serial v)
-     _
-     (λ v l. omega (arith, c .0, l))
-     (rounds st d bs is (afters (try-moves st d i (try st d bs a i)) a) .1)
-     (rounds-above st d bs (i .serial) is high (afters (try-moves st d i (try st d bs a i)) a) (c .1)))
+    (λ v. i .serial < leg-serial v)
+    _
+    (λ v l. omega (arith, c .0, l))
+    (rounds st d bs is (afters (try-moves st d i (try st d bs a i)) a) .1)
+    (rounds-above st d bs (i .serial) is high (afters (try-moves st d i (try st d bs a i)) a) (c .1)))
   where
     go : (t : Try) → All (λ v. low < leg-serial v) (try-moves st d i t)
     go idle = tt
@@ -154,15 +154,15 @@ module _ (s : Start) (sd : Standing) (on : sd .state ≡ on-a-day) (bs : List Bl
       → Last s bs low j vs (ended (sd .day) (turned i (i .fate) (Some c)))
   waited-last low j a i e c vs r h l g sh =
       subst (λ (y : Instruction). Last s bs low j vs y) (sym (waited-ends (sd .day) i e (Some c) r))
-        record
-          { before = []
-          ; rest = vs
-          ; split = refl
-          ; above = l
-          ; lower = tt
-          ; higher = g
-          ; short = subst (λ (x : Amounts). Short s x bs (turned i (refused-as e) (Some c))) (shown-reads (s .funds) a j h ∙ ap (reads (s .funds)) (sym (append-nil j))) sh
-          }
+      record {
+        before = [];
+        rest = vs;
+        split = refl;
+        above = l;
+        lower = tt;
+        higher = g;
+        short = subst (λ (x : Amounts). Short s x bs (turned i (refused-as e) (Some c))) (shown-reads (s .funds) a j h ∙ ap (reads (s .funds)) (sym (append-nil j))) sh;
+      }
 
   -- behind the first instruction's legs
   behind : (low n : ℕ) (j m vs : Journal) (ys : List Instruction) → low < n → All (λ v. leg-serial v ≡ n) m
@@ -172,21 +172,21 @@ module _ (s : Start) (sd : Standing) (on : sd .state ≡ on-a-day) (bs : List Bl
       (Ends n (j ++ m) vs)
       (Ends low j (m ++ vs))
       (λ y g t. let x : Last s bs n (j ++ m) vs y = g t in
-        record
-          { before = m ++ x .before
-          ; rest = x .rest
-          ; split = ap (λ (z : Journal). m ++ z) (x .split) ∙ sym (append-assoc m (x .before) (x .rest))
-          ; above = omega (arith, x .above)
-          ; lower = all-append _ m (x .before) (all-weaker (λ v. leg-serial v ≡ n) _ (λ v e. omega (arith, e, x .above)) m q) (x .lower)
-          ; higher = x .higher
-          ; short = subst (λ (z : Journal). Short s (reads (s .funds) z) bs y) (append-assoc j m (x .before)) (x .short)
-          })
+      record {
+        before = m ++ x .before;
+        rest = x .rest;
+        split = ap (λ (z : Journal). m ++ z) (x .split) ∙ sym (append-assoc m (x .before) (x .rest));
+        above = omega (arith, x .above);
+        lower = all-append _ m (x .before) (all-weaker (λ v. leg-serial v ≡ n) _ (λ v e. omega (arith, e, x .above)) m q) (x .lower);
+        higher = x .higher;
+        short = subst (λ (z : Journal). Short s (reads (s .funds) z) bs y) (append-assoc j m (x .before)) (x .short);
+      })
       ys
       h
 
   module _ (i : Instruction) (is : List Instruction) (low high : ℕ) (j : Journal) (a : Amounts) (c : Climbs low (bares (i ∷ is)) high) (h : Shown (s .funds) a j)
-    (w : All (Fit (s .days) sd j) (i ∷ is)) (k : Known (setting-of s) (i .order))
-    (ih : (j : Journal) (a : Amounts) → Shown (s .funds) a j → All (Fit (s .days) sd j) is
+      (w : All (Fit (s .days) sd j) (i ∷ is)) (k : Known (setting-of s) (i .order))
+      (ih : (j : Journal) (a : Amounts) → Shown (s .funds) a j → All (Fit (s .days) sd j) is
       → All (Ends (i .serial) j (rounds (setting-of s) (sd .day) bs is a .1)) (ended-all (sd .day) (rounds (setting-of s) (sd .day) bs is a .0))) where
     abbrev moved : Try → List Movement
     moved t = try-moves (setting-of s) (sd .day) i t
@@ -195,8 +195,8 @@ module _ (s : Start) (sd : Standing) (on : sd .state ≡ on-a-day) (bs : List Bl
         → All (Ends low j (m ++ rounds (setting-of s) (sd .day) bs is (afters m a) .1)) (ended-all (sd .day) (rounds (setting-of s) (sd .day) bs is (afters m a) .0))
     others m q g =
         behind low (i .serial) j m _ _ (c .0) q
-          (ih (j ++ m) (afters m a) g
-            (all-weaker (Fit (s .days) sd j) (Fit (s .days) sd (j ++ m)) (λ x. fit-more (s .days) sd j m (x .serial) (x .order) (x .fate)) is (w .1)))
+        (ih (j ++ m) (afters m a) g
+        (all-weaker (Fit (s .days) sd j) (Fit (s .days) sd (j ++ m)) (λ x. fit-more (s .days) sd j m (x .serial) (x .order) (x .fate)) is (w .1)))
 
     still : All (Ends low j (rounds (setting-of s) (sd .day) bs is a .1)) (ended-all (sd .day) (rounds (setting-of s) (sd .day) bs is a .0))
     still = others [] tt (subst (λ (l : Journal). Shown (s .funds) a l) (sym (append-nil j)) h)
@@ -215,25 +215,32 @@ module _ (s : Start) (sd : Standing) (on : sd .state ≡ on-a-day) (bs : List Bl
         a
         i
         (λ t. All
-          (Ends low j (moved t ++ rounds (setting-of s) (sd .day) bs is (afters (moved t) a) .1))
-          (ended (sd .day) (tried i t) ∷ ended-all (sd .day) (rounds (setting-of s) (sd .day) bs is (afters (moved t) a) .0)))
+        (Ends low j (moved t ++ rounds (setting-of s) (sd .day) bs is (afters (moved t) a) .1))
+        (ended (sd .day) (tried i t) ∷ ended-all (sd .day) (rounds (setting-of s) (sd .day) bs is (afters (moved t) a) .0)))
         (λ m o. (λ q. absurd (untried (sd .day) i (none-refused (s .days) sd j (i .serial) (i .order) (i .fate) on (w .0)) m o q), still))
-        (λ e r n. (λ _. refused-now e NominalShort r
-            (inl (refl, subst (λ (l : Leg). free a bs (giver (i .order) l) < i .order .nominal) (sym (last-refused e)) (leb-false (i .order .nominal) (free a bs (giver (i .order) e)) n)))
-          , still))
-        (λ e r n p. (λ _. refused-now e MoneyShort r
-            (inr
-              ( refl
-              , subst (λ (l : Leg). i .order .nominal ≤ free a bs (giver (i .order) l)) (sym (last-refused e)) (leb-true (i .order .nominal) (free a bs (giver (i .order) e)) n)
-              , subst (λ (l : Leg). affords a (leg-payment (setting-of s) (i .order) l) ≡ false) (sym (last-refused e)) p))
-          , still))
-        (λ e r n p. (λ q. absurd (settled-not (sd .day) i e (i .order .«return_date»)
-            (λ z t. not-later (sd .day) (i .order .«return_date»)
+        (λ e r n. (
+          λ _. refused-now e NominalShort r
+              (inl (refl, subst (λ (l : Leg). free a bs (giver (i .order) l) < i .order .nominal) (sym (last-refused e)) (leb-false (i .order .nominal) (free a bs (giver (i .order) e)) n))),
+          still,
+        ))
+        (λ e r n p. (
+          λ _. refused-now e MoneyShort r
+              (inr (
+                refl,
+                subst (λ (l : Leg). i .order .nominal ≤ free a bs (giver (i .order) l)) (sym (last-refused e)) (leb-true (i .order .nominal) (free a bs (giver (i .order) e)) n),
+                subst (λ (l : Leg). affords a (leg-payment (setting-of s) (i .order) l) ≡ false) (sym (last-refused e)) p,
+              )),
+          still,
+        ))
+        (λ e r n p. (
+          λ q. absurd (settled-not (sd .day) i e (i .order .«return_date»)
+              (λ z t. not-later (sd .day) (i .order .«return_date»)
               (subst (λ (x : ℕ). later x (i .order .«return_date»)) (ap (leg-date (i .order)) (sym z) ∙ ready-date (s .days) sd j i e (w .0) r) (k .return))
               t)
-            q)
-          , others (moved (settles e)) (refl, tt)
-              (shown-more (s .funds) a j (leg (setting-of s) (sd .day) i e) h (leg-covered (setting-of s) (sd .day) bs a i e n p))))
+              q),
+          others (moved (settles e)) (refl, tt)
+              (shown-more (s .funds) a j (leg (setting-of s) (sd .day) i e) h (leg-covered (setting-of s) (sd .day) bs a i e n p)),
+        ))
 
   last : (is : List Instruction) (low high : ℕ) (j : Journal) (a : Amounts) → Climbs low (bares is) high → Shown (s .funds) a j → All (Fit (s .days) sd j) is
       → All (λ x. Known (setting-of s) (x .order)) (bares is)
@@ -245,18 +252,18 @@ module _ (s : Start) (sd : Standing) (on : sd .state ≡ on-a-day) (bs : List Bl
 -- closing on a day
 closes : (s : Start) (h : Past) → is-on-a-day (h .book) ≡ true
     → outcome s h call.Closing
-      ≡ does
-        (answer.Closed
-          (legs-done (setting-of s) (reads (s .funds) (h .journal)) (h .book))
-          (moved-to is-leg-refused (round-of (setting-of s) (reads (s .funds) (h .journal)) (h .book) .0) (closing-list (setting-of s) (reads (s .funds) (h .journal)) (h .book))))
-        (shuts (h .book) (closing-list (setting-of s) (reads (s .funds) (h .journal)) (h .book)))
-        (round-of (setting-of s) (reads (s .funds) (h .journal)) (h .book) .1)
+    ≡ does
+    (answer.Closed
+    (legs-done (setting-of s) (reads (s .funds) (h .journal)) (h .book))
+    (moved-to is-leg-refused (round-of (setting-of s) (reads (s .funds) (h .journal)) (h .book) .0) (closing-list (setting-of s) (reads (s .funds) (h .journal)) (h .book))))
+    (shuts (h .book) (closing-list (setting-of s) (reads (s .funds) (h .journal)) (h .book)))
+    (round-of (setting-of s) (reads (s .funds) (h .journal)) (h .book) .1)
 closes s h e =
     ap
-      (λ (b : Bool). ruled (cond b (Ok tt) (Err WrongState)) (close-work (setting-of s) (reads (s .funds) (h .journal)) (h .book)))
-      (or-left (is-on-a-day (h .book)) (eqb (h .book .standing .state) on-no-day) e)
+    (λ (b : Bool). ruled (cond b (Ok tt) (Err WrongState)) (close-work (setting-of s) (reads (s .funds) (h .journal)) (h .book)))
+    (or-left (is-on-a-day (h .book)) (eqb (h .book .standing .state) on-no-day) e)
     ∙ cond-false (eqb (h .book .standing .state) on-no-day) _ _
-        (ne-eqb (h .book .standing .state) on-no-day (λ z. omega (arith, eqb-true (h .book .standing .state) on-a-day e)))
+    (ne-eqb (h .book .standing .state) on-no-day (λ z. omega (arith, eqb-true (h .book .standing .state) on-a-day e)))
 
 pub refused-short-holds : (s : Start) → Sensible s → (cs : List Call) → Refused-short s (history s cs)
 refused-short-holds s w cs e =
@@ -264,20 +271,20 @@ refused-short-holds s w cs e =
     (λ (o : Outcome). All (λ i. is-short i ≡ true → Tried-last s h (past-by h o) i) (past-by h o .book .instructions .standing))
     (sym (closes s h e))
     (all-weaker
-     (Ends s (h .book .standing) (eqb-true (h .book .standing .state) on-a-day e) (h .book .blockings .standing) 0 (h .journal) vs)
-     _
-     (λ i g t. let x : Last s (h .book .blockings .standing) 0 (h .journal) vs i = g t in
-       record
-         { before = x .before
-         ; rest = x .rest
-         ; journal = ap (λ (l : Journal). h .journal ++ l) (x .split) ∙ sym (append-assoc (h .journal) (x .before) (x .rest))
-         ; lower = x .lower
-         ; higher = x .higher
-         ; short = x .short
-         })
-     (closing-list (setting-of s) (reads (s .funds) (h .journal)) (h .book))
-     (last s (h .book .standing) (eqb-true (h .book .standing .state) on-a-day e) (h .book .blockings .standing)
-       (h .book .instructions .standing) 0 (h .book .instructions .next) (h .journal) (reads (s .funds) (h .journal)) (k .climbs) (k .shown) (k .fit) (k .known)))
+    (Ends s (h .book .standing) (eqb-true (h .book .standing .state) on-a-day e) (h .book .blockings .standing) 0 (h .journal) vs)
+    _
+    (λ i g t. let x : Last s (h .book .blockings .standing) 0 (h .journal) vs i = g t in
+    record {
+      before = x .before;
+      rest = x .rest;
+      journal = ap (λ (l : Journal). h .journal ++ l) (x .split) ∙ sym (append-assoc (h .journal) (x .before) (x .rest));
+      lower = x .lower;
+      higher = x .higher;
+      short = x .short;
+    })
+    (closing-list (setting-of s) (reads (s .funds) (h .journal)) (h .book))
+    (last s (h .book .standing) (eqb-true (h .book .standing .state) on-a-day e) (h .book .blockings .standing)
+    (h .book .instructions .standing) 0 (h .book .instructions .next) (h .journal) (reads (s .funds) (h .journal)) (k .climbs) (k .shown) (k .fit) (k .known)))
   where
     h : Past
     h = history s cs
