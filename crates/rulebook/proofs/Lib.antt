@@ -15,3 +15,12 @@ pub mod Working
 pub mod Effects
 pub mod Punctual
 pub mod Endings
+pub mod Covers
+pub mod Roll
+pub mod Fits
+pub mod Settling
+pub mod Course
+pub mod Issued
+pub mod Legs
+pub mod Short
+pub mod Whole

@@ -1,6 +1,4 @@
 // The words of the register: what is called, and what is answered.
-ghost use Rattle.rulebook.specs.Laws.{Checks-rise};
-ghost use Rattle.rulebook.specs.Sheet.{Sheet};
 use calendar::Date;
 use refusals::Refusal;
 
@@ -111,18 +109,4 @@ pub enum Answer {
     Status { fate: Fate, cause: Option<Refusal> },
     Holds(Holding),
     Refused { refusal: Refusal, field: u64 },
-}
-
-// The edge cases of the rules hold.
-pub fn edge_cases_hold() -> u8
-    ensures { λ _. ⌜ Sheet ⌝ }
-{
-    0
-}
-
-// Every call's checks run in the order of the table.
-pub fn checks_rise() -> u8
-    ensures { λ _. ⌜ Checks-rise ⌝ }
-{
-    0
 }
