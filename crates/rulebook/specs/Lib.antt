@@ -1,2 +1,11 @@
 pub mod Answers
 pub mod States
+pub mod Words
+pub mod Checks
+pub mod Matching
+pub mod Rounds
+pub mod Rules
+pub mod Journal
+pub mod Sheet
+pub mod Laws
+pub mod Works

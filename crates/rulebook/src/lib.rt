@@ -2,6 +2,8 @@
 use calendar::Date;
 use refusals::Refusal;
 
+pub mod theorems;
+
 // Whose nominal an entry holds: the participant's own, or its customers'.
 #[derive(Clone, Copy)]
 pub enum Side {
