@@ -33,7 +33,7 @@ file-lines file = cond (leb (length file) 65536) (Ok (lines file)) (Err FileTooL
 
 -- what a field that was handed out looks like
 abbrev pub look : Field → Look
-look Blank = blank
+look (Blank b) = blank
 look (Date b) = date (now b)
 look (Number b) = number (now b)
 look (Letter b) = letter (now b)

@@ -174,7 +174,7 @@ fn field_at<'a>(fields: Fields<'a>, number: usize) -> Field<'a>
             return field;
         }
     }
-    Field::Blank
+    Field::Blank(&[])
 }
 
 // The number in a field, or 0.

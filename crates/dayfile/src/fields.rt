@@ -11,7 +11,7 @@ use refusals::Refusal;
 // A field as a part of its line: no bytes, eight digits, other digits, or anything else.
 #[derive(Clone, Copy)]
 pub enum Field<'a> {
-    Blank,
+    Blank(&'a [u8]),
     Date(&'a [u8]),
     Number(&'a [u8]),
     Letter(&'a [u8]),
@@ -23,7 +23,7 @@ impl<'a> Field<'a> {
         ensures { λ r. ⌜ look r ≡ look-of (now (bytes .entry)) ⌝ }
     {
         if bytes.is_empty() {
-            return Field::Blank;
+            return Field::Blank(bytes);
         }
         if !all_digits(bytes) {
             return Field::Letter(bytes);

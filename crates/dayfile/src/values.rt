@@ -63,7 +63,7 @@ impl<'a> Field<'a> {
         ensures { λ r. ⌜ r ≡ is-blank (look (self .entry)) ⌝ }
     {
         match self {
-            Field::Blank => true,
+            Field::Blank(_) => true,
             _ => false,
         }
     }
