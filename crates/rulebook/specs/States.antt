@@ -1,6 +1,8 @@
 -- A register is shut, open on a business day, or open on no day.
+use mathlib.Core.Bool.{cond}
 use mathlib.Core.List.{List}
 use Prim.Native.Nat.{ℕ}
+use lib.Dec.{eqb}
 use Rattle.std.specs.declared.option.Option.{Option}
 use Rattle.std.specs.declared.option.Option.the-variants.{Some, None}
 use Rattle.calendar.specs.Days.{next-after}
@@ -40,3 +42,7 @@ closed s = record { state = shut; day = s .day }
 abbrev pub opening-date : Option ℕ → ℕ
 opening-date None = 0
 opening-date (Some d) = d
+
+-- the business day on which a register is open, or 0
+abbrev pub today : Standing → ℕ
+today s = cond (eqb (s .state) on-a-day) (s .day) 0

@@ -1,0 +1,3 @@
+// The register of book-entry securities.
+pub mod register;
+pub mod states;
