@@ -1,17 +1,14 @@
 -- What a call moves: each movement is covered by the amounts that those before it left.
 use mathlib.Core.Path.{_≡_, refl, ap, sym, _∙_}
 use mathlib.Core.List.{List, [], _∷_, _++_}
-use mathlib.Core.Bool.{true, cond, _&&_}
+use mathlib.Core.Bool.{true, _&&_}
 use Prim.Native.Nat.{ℕ, _+_, _≤_}
 use native.Mathlib.Omega.{arith}
-use lib.Dec.{eqb, leb, ltb}
+use lib.Dec.{eqb, ltb}
 use Rattle.std.specs.declared.option.Option.{Option}
-use Rattle.std.specs.declared.option.Option.the-variants.{Some, None}
 use Rattle.std.specs.shelf.Lists.{All}
-use Rattle.std.proofs.shelf.Tests.{cond-both, and-parts, eqb-true, leb-true}
+use Rattle.std.proofs.shelf.Tests.{cond-both, and-parts, eqb-true}
 use Rattle.std.proofs.shelf.Ways.{tells}
-use Rattle.refusals.specs.declared.Refusal.{Refusal}
-use Rattle.refusals.specs.declared.Refusal.the-variants.{NominalShort, MoneyShort}
 use Rattle.rulebook.specs.declared.Side.{Side}
 use Rattle.rulebook.specs.declared.Side.the-variants.{Own, Customer}
 use Rattle.rulebook.specs.declared.Placement.{Placement}
@@ -20,9 +17,10 @@ use Rattle.rulebook.specs.declared.Call.the-variants as call
 use Rattle.rulebook.specs.States.{on-no-day}
 use Rattle.rulebook.specs.Words.{same-side, Place, place, same, at, Payment, Leg, Movement, takes, money, out-of, Amounts, after, afters, Blocking, Instruction, Setting, Book, free}
 use Rattle.rulebook.specs.Checks.{today, affords, place-checks, held, held-back, redeem-checks}
-use Rattle.rulebook.specs.Rounds.{giver, leg-payment, leg, due, Try, idle, waits, settles, try-leg, try, try-moves, rounds}
+use Rattle.rulebook.specs.Rounds.{giver, leg-payment, leg, try, try-moves, rounds}
 use Rattle.rulebook.specs.Rules.{checks, work, rule, moves-by, placing, redeeming, rounded}
 use Rattle.rulebook.proofs.Answering.{Passes, rule-both}
+use Rattle.rulebook.proofs.Ways.{try-both}
 
 pub side-true : (s t : Side) → same-side s t ≡ true → s ≡ t
 side-true Own Own e = refl
@@ -78,31 +76,6 @@ pub along-append : (P : Amounts → Movement → Type 0) (vs ws : List Movement)
 along-append P [] ws a h g = g
 along-append P (v ∷ vs) ws a h g = (h .0, along-append P vs ws (after v a) (h .1) g)
 
--- a try: nothing is due, or it waits, or it settles with free nominal and money
-pub try-both : (Q : Try → Type 0) (st : Setting) (d : ℕ) (bs : List Blocking) (a : Amounts) (i : Instruction)
-    → Q idle
-    → ((c : Refusal) → Q (waits c))
-    → ((e : Leg) → i .order .nominal ≤ free a bs (giver (i .order) e) → affords a (leg-payment st (i .order) e) ≡ true → Q (settles e))
-    → Q (try st d bs a i)
-try-both Q st d bs a i none wait settle = go (due d i)
-  where
-    go : (x : Option Leg) → Q (try-leg st a bs (i .order) x)
-    go None = none
-    go (Some e) =
-        cond-both
-        (leb (i .order .nominal) (free a bs (giver (i .order) e)))
-        (cond (affords a (leg-payment st (i .order) e)) (settles e) (waits MoneyShort))
-        (waits NominalShort)
-        Q
-        (λ l. cond-both
-        (affords a (leg-payment st (i .order) e))
-        (settles e)
-        (waits MoneyShort)
-        Q
-        (settle e (leb-true (i .order .nominal) (free a bs (giver (i .order) e)) l))
-        (λ _. wait MoneyShort))
-        (λ _. wait NominalShort)
-
 -- P of an instruction's legs, at whatever amounts they settle
 abbrev pub Legs-keep : (Amounts → Movement → Type 0) → Setting → ℕ → List Blocking → Instruction → Type 0
 Legs-keep P st d bs i =
@@ -116,7 +89,7 @@ rounds-along P st d bs (i ∷ is) a h =
     let t = try st d bs a i in
     let b = afters (try-moves st d i t) a in
     along-append P (try-moves st d i t) (rounds st d bs is b .1) a
-    (try-both (λ u. Along P (try-moves st d i u) a) st d bs a i tt (λ _. tt) (λ e n m. (h .0 a e n m, tt)))
+    (try-both st d bs a i (λ u. Along P (try-moves st d i u) a) (λ _ _. tt) (λ _ _ _. tt) (λ _ _ _ _. tt) (λ e _ n m. (h .0 a e n m, tt)))
     (rounds-along P st d bs is b (h .1))
 
 -- P of what each kind of call moves is P along all that it moves
@@ -149,7 +122,7 @@ pub record Covered (bs : List Blocking) (a : Amounts) (v : Movement) : Type 0 wh
   pub nominal : (p : Place) → takes v p ≤ free a bs p
   pub balance : (x : ℕ) → out-of (money v) x ≤ a .balance x
 
-leg-covered : (st : Setting) (d : ℕ) (bs : List Blocking) (i : Instruction) → Legs-keep (Covered bs) st d bs i
+pub leg-covered : (st : Setting) (d : ℕ) (bs : List Blocking) (i : Instruction) → Legs-keep (Covered bs) st d bs i
 leg-covered st d bs i a e n m =
     record {
       nominal = λ p. at-le (free a bs) (giver (i .order) e) p (i .order .nominal) n;

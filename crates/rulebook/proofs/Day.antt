@@ -1,18 +1,15 @@
 -- A repo's whole day, by computation: the answers, and the balances at its end.
 use mathlib.Core.Path.{_≡_, refl}
-use mathlib.Core.List.{List, [], _∷_, _++_, map}
-use Prim.Native.Nat.{ℕ}
+use mathlib.Core.List.{List, [], _∷_, map}
 use Rattle.std.specs.declared.option.Option.the-variants.{Some, None}
-use Rattle.refusals.specs.declared.Refusal.the-variants.{WrongState}
-use Rattle.rulebook.specs.declared.Sender.{Sender}
 use Rattle.rulebook.specs.declared.Sender.the-variants.{Transferor, Acquirer}
 use Rattle.rulebook.specs.declared.Fate.the-variants as fate
 use Rattle.rulebook.specs.declared.Call.{Call}
-use Rattle.rulebook.specs.declared.Call.the-variants.{Opening, NewIssue, Placing, Instructing, Blocking, Releasing, Round, Closing, AskingStatus, AskingHolding}
+use Rattle.rulebook.specs.declared.Call.the-variants.{Opening, NewIssue, Releasing, Round, Closing, AskingStatus, AskingHolding}
 use Rattle.rulebook.specs.declared.Answer.{Answer}
-use Rattle.rulebook.specs.declared.Answer.the-variants.{Opened, Registered, Placed, Instructed, Blocked, Released, RoundMade, Closed, Status, Holds, Refused}
+use Rattle.rulebook.specs.declared.Answer.the-variants.{Opened, Registered, Placed, Instructed, Blocked, Released, RoundMade, Closed, Status, Holds}
 use Rattle.rulebook.specs.Journal.{history, answers, reads, first-view, run}
-use Rattle.rulebook.specs.Sheet.{january, rich, registered, placement, stocked, next-day, transfer, pledge}
+use Rattle.rulebook.specs.Sheet.{january, rich, placement, transfer, pledge}
 
 abbrev day : List Call
 day =

@@ -1,4 +1,5 @@
 pub mod Sheet
+pub mod Cases
 pub mod Day
 pub mod Week
 pub mod Rising
@@ -7,6 +8,8 @@ pub mod Turns
 pub mod Pairing
 pub mod Partners
 pub mod Answering
+pub mod Steps
+pub mod Ways
 pub mod Covered
 pub mod Agreement
 pub mod Ordered
@@ -15,12 +18,13 @@ pub mod Working
 pub mod Effects
 pub mod Punctual
 pub mod Endings
-pub mod Covers
 pub mod Roll
-pub mod Fits
 pub mod Settling
 pub mod Course
 pub mod Issued
 pub mod Legs
 pub mod Short
 pub mod Whole
+pub mod Limits
+pub mod Ministry
+pub mod Timely

@@ -4,11 +4,11 @@ use mathlib.Core.List.{List, [], _∷_, _++_}
 use mathlib.Core.Bool.{Bool, true, false, not, _&&_}
 use Prim.Native.Nat.{ℕ, _+_, _≤_, _<_}
 use native.Mathlib.Omega.{arith}
-use lib.Dec.{eqb, leb}
+use lib.Dec.{eqb}
 use Rattle.std.specs.declared.option.Option.{Option}
 use Rattle.std.specs.declared.option.Option.the-variants.{Some, None}
 use Rattle.std.specs.shelf.Lists.{All}
-use Rattle.std.proofs.shelf.Lists.{append-nil, append-assoc, map-push}
+use Rattle.std.proofs.shelf.Lists.{map-append}
 use Rattle.std.proofs.shelf.Elements.{all-push, all-weaker}
 use Rattle.std.proofs.shelf.Tests.{false≢true, cond-both, and-parts}
 use Rattle.std.proofs.shelf.Ways.{tells}
@@ -17,10 +17,12 @@ use Rattle.rulebook.specs.declared.Fate.{Fate}
 use Rattle.rulebook.specs.declared.Fate.the-variants as fate
 use Rattle.rulebook.specs.Words.{one-if, total, Instruction, turned, alike}
 use Rattle.rulebook.specs.Checks.{is-inside}
-use Rattle.rulebook.specs.Matching.{joins, same-order, counter, is-partner, pair-up, met, admit, arrive, wake, wake-all}
+use Rattle.rulebook.specs.Matching.{joins, same-order, counter, is-partner, pair-up, met, arrive, wake, wake-all}
 use Rattle.rulebook.specs.Laws.{was-matched}
-use Rattle.rulebook.proofs.Totals.{total-push}
-use Rattle.rulebook.proofs.Turns.{Fixed, weigh, answering, joined-to, leading, serials, Calm, Fits}
+use Rattle.rulebook.proofs.Totals.{total-push, total-append, one-if-none}
+use Rattle.rulebook.proofs.Turns.{Fixed, weigh, answering, joined-to, leading, Calm, Fits}
+use Rattle.rulebook.proofs.Ways.{arrive-both}
+use Rattle.rulebook.proofs.Roll.{bare, bares, serials, serials-roll, total-roll, wake-bare}
 
 -- numbers that rise above one and stay below another
 abbrev pub Between : ℕ → ℕ → List ℕ → Type 0
@@ -34,8 +36,6 @@ hit (Some s) n = one-if (eqb s n)
 
 -- what seeking a partner does
 record Paired (o : Order) (xs : List Instruction) (r : List Instruction × Option ℕ) : Type 0 where
-  numbers : serials (r .0) ≡ serials xs
-  fixed : (g : Fixed) → total (weigh g) (r .0) ≡ total (weigh g) xs
   joined : (n : ℕ) → total (joined-to n) (r .0) ≡ total (joined-to n) xs
   led : (n : ℕ) → total (leading n) (r .0) ≡ total (leading n) xs + hit (r .1) n
   found : (n : ℕ) → hit (r .1) n ≤ total (weigh (answering n o)) xs
@@ -46,8 +46,6 @@ record Paired (o : Order) (xs : List Instruction) (r : List Instruction × Optio
 alone : (o : Order) (xs : List Instruction) → Paired o xs (xs, None)
 alone o xs =
     record {
-      numbers = refl;
-      fixed = λ g. refl;
       joined = λ n. refl;
       led = λ n. omega arith;
       found = λ n. omega arith;
@@ -77,8 +75,6 @@ paired-here : (o : Order) → is-inside o ≡ false → (x : Instruction) (xs : 
     → Paired o (x ∷ xs) (turned x fate.Matched None ∷ xs, Some (x .serial))
 paired-here o p x xs e =
     record {
-      numbers = refl;
-      fixed = λ g. refl;
       joined = λ n. omega (arith, ap one-if (unmatched-joins n (x .fate) (u .0)));
       led = λ n. omega (arith, now-leads (eqb (x .serial) n) (was-matched x) (is-inside (x .order)) (unmatched-before x (u .0)) inside);
       found = λ n. omega (arith, ap (λ v. one-if (eqb (x .serial) n && v)) (u .1), and-one (eqb (x .serial) n));
@@ -100,8 +96,6 @@ paired-behind : (o : Order) (x : Instruction) (xs : List Instruction) (r : List 
     → Paired o (x ∷ xs) (x ∷ r .0, r .1)
 paired-behind o x xs r y =
     record {
-      numbers = ap (λ l. x .serial ∷ l) (y .numbers);
-      fixed = λ g. omega (arith, y .fixed g);
       joined = λ n. omega (arith, y .joined n);
       led = λ n. omega (arith, y .led n);
       found = λ n. omega (arith, y .found n);
@@ -123,8 +117,6 @@ paired o p (x ∷ xs) =
 
 -- behind xs come the instructions is, and the list is ys
 pub record Came (xs is ys : List Instruction) : Type 0 where
-  pub numbers : serials ys ≡ serials xs ++ serials is
-  pub fixed : (g : Fixed) → total (weigh g) ys ≡ total (weigh g) xs + total (weigh g) is
   pub led : (n : ℕ) → total (joined-to n) ys + (total (leading n) xs + total (leading n) is)
       ≡ (total (joined-to n) xs + total (joined-to n) is) + total (leading n) ys
   pub calm : All Calm xs → All Calm is → All Calm ys
@@ -133,27 +125,32 @@ pub record Came (xs is ys : List Instruction) : Type 0 where
       → All (λ s. s ≤ low) (serials xs) → Between low high (serials is)
       → All (Fits c) xs → All (Fits c) is → All (Fits c) ys
 
+-- the roll says the rest: serials, and what reads serial and order alone
+pub came-serials : (xs is ys : List Instruction) → bares ys ≡ bares xs ++ bares is → serials ys ≡ serials xs ++ serials is
+came-serials xs is ys e = serials-roll (xs ++ is) ys (e ∙ sym (map-append bare xs is)) ∙ map-append (λ (x : Instruction). x .serial) xs is
+
+pub came-fixed : (g : Fixed) (xs is ys : List Instruction) → bares ys ≡ bares xs ++ bares is
+    → total (weigh g) ys ≡ total (weigh g) xs + total (weigh g) is
+came-fixed g xs is ys e =
+    total-roll (weigh g) (λ _. refl) (xs ++ is) ys (e ∙ sym (map-append bare xs is)) ∙ total-append (weigh g) xs is
+
 came-none : (xs : List Instruction) → Came xs [] xs
 came-none xs =
     record {
-      numbers = sym (append-nil (serials xs));
-      fixed = λ g. omega arith;
       led = λ n. omega arith;
       calm = λ a _. a;
       fits = λ c low high _ _ _ a _. a;
     }
 
-came-more : (xs : List Instruction) (i : Instruction) (is ys zs : List Instruction)
+came-more : (xs : List Instruction) (i : Instruction) (is ys zs : List Instruction) → bares ys ≡ bares xs ++ bare i ∷ []
     → Came xs (i ∷ []) ys → Came ys is zs → Came xs (i ∷ is) zs
-came-more xs i is ys zs a b =
+came-more xs i is ys zs roll a b =
     record {
-      numbers = b .numbers ∙ (ap (λ l. l ++ serials is) (a .numbers) ∙ append-assoc (serials xs) (i .serial ∷ []) (serials is));
-      fixed = λ g. omega (arith, a .fixed g, b .fixed g);
       led = λ n. omega (arith, a .led n, b .led n);
       calm = λ h k. b .calm (a .calm h (k .0, tt)) (k .1);
       fits = λ c low high l h w u v.
           b .fits c (i .serial) high
-          (λ n o. omega (arith, l n o, a .fixed (answering n o)))
+          (λ n o. omega (arith, l n o, came-fixed (answering n o) xs (i ∷ []) ys roll))
           (up-to low h (w .0))
           (w .1)
           (a .fits c low (i .serial + 1) (λ n o. omega (arith, l n o)) h (w .0, omega arith) u (v .0, tt))
@@ -164,7 +161,7 @@ came-more xs i is ys zs a b =
     up-to low h l =
         subst
         (All (λ s. s ≤ i .serial))
-        (sym (a .numbers))
+        (sym (came-serials xs (i ∷ []) ys roll))
         (all-push (λ s. s ≤ i .serial) (serials xs) (i .serial)
         (all-weaker (λ s. s ≤ low) (λ s. s ≤ i .serial) (λ s e. omega arith) (serials xs) h)
         (omega arith))
@@ -173,8 +170,6 @@ came-more xs i is ys zs a b =
 came-one : (xs : List Instruction) (i : Instruction) → Came xs (i ∷ []) (xs ++ i ∷ [])
 came-one xs i =
     record {
-      numbers = map-push (λ (x : Instruction). x .serial) xs i;
-      fixed = λ g. omega (arith, total-push (weigh g) xs i);
       led = λ n. omega (arith, total-push (joined-to n) xs i, total-push (leading n) xs i);
       calm = λ a k. all-push Calm xs i a (k .0);
       fits = λ c low high _ _ _ a k. all-push (Fits c) xs i a (k .0);
@@ -192,8 +187,6 @@ came-turned : (xs ys : List Instruction) (r : Option ℕ) (i : Instruction) (f :
     → Came xs (i ∷ []) (ys ++ turned i f None ∷ [])
 came-turned xs ys r i f k p js ls =
     record {
-      numbers = map-push (λ (x : Instruction). x .serial) ys new ∙ ap (λ l. l ++ i .serial ∷ []) (p .numbers);
-      fixed = λ g. omega (arith, total-push (weigh g) ys new, p .fixed g);
       led = λ n. omega (arith, total-push (joined-to n) ys new, total-push (leading n) ys new, p .joined n, p .led n, js n, ls n, kept-joins n i k, kept-leads n i k);
       calm = λ a _. all-push Calm ys new (p .calm a) (λ _. refl);
       fits = λ c low high l h w a _. all-push (Fits c) ys new (p .fits c a) (λ n e.
@@ -206,29 +199,17 @@ came-turned xs ys r i f k p js ls =
     new : Instruction
     new = turned i f None
 
-and-nothing : (v : Bool) → _≡_ {A = ℕ} (one-if (v && false)) 0
-and-nothing v = grind arith
-
 pub arrived : (d : ℕ) (xs : List Instruction) (i : Instruction) → alike (i .fate) fate.Kept ≡ true → Came xs (i ∷ []) (arrive d xs i)
 arrived d xs i k =
-    cond-both
-    (leb (i .order .«value_date» .number) d)
-    (admit xs i)
-    (xs ++ turned i fate.Kept None ∷ [])
-    (Came xs (i ∷ []))
-    (λ _. cond-both
-    (is-inside (i .order))
-    (xs ++ turned i fate.Matched None ∷ [])
-    (pair-up (i .order) xs .0 ++ met i (pair-up (i .order) xs .1) ∷ [])
-    (Came xs (i ∷ []))
-    (λ e. came-turned xs xs None i fate.Matched k (alone (i .order) xs) (λ n. refl)
-    (λ n. ap (λ v. one-if (eqb (i .serial) n && not v)) e ∙ and-nothing (eqb (i .serial) n)))
-    (λ e. sought (pair-up (i .order) xs .0) (pair-up (i .order) xs .1) (paired (i .order) e xs)))
-    (λ _. came-turned xs xs None i fate.Kept k (alone (i .order) xs) (λ n. refl) (λ n. and-nothing (eqb (i .serial) n)))
+    arrive-both d xs i (Came xs (i ∷ []))
+    (λ _ e. came-turned xs xs None i fate.Matched k (alone (i .order) xs) (λ n. refl)
+    (λ n. ap (λ v. one-if (eqb (i .serial) n && not v)) e ∙ one-if-none (eqb (i .serial) n)))
+    (λ _ e. sought (pair-up (i .order) xs .0) (pair-up (i .order) xs .1) (paired (i .order) e xs))
+    (λ _. came-turned xs xs None i fate.Kept k (alone (i .order) xs) (λ n. refl) (λ n. one-if-none (eqb (i .serial) n)))
   where
     sought : (ys : List Instruction) (r : Option ℕ) → Paired (i .order) xs (ys, r) → Came xs (i ∷ []) (ys ++ met i r ∷ [])
-    sought ys None p = came-turned xs ys None i fate.Unmatched k p (λ n. refl) (λ n. and-nothing (eqb (i .serial) n))
-    sought ys (Some s) p = came-turned xs ys (Some s) i (fate.Joined s) k p (λ n. refl) (λ n. and-nothing (eqb (i .serial) n))
+    sought ys None p = came-turned xs ys None i fate.Unmatched k p (λ n. refl) (λ n. one-if-none (eqb (i .serial) n))
+    sought ys (Some s) p = came-turned xs ys (Some s) i (fate.Joined s) k p (λ n. refl) (λ n. one-if-none (eqb (i .serial) n))
 
 woken : (d : ℕ) (xs : List Instruction) (i : Instruction) → Came xs (i ∷ []) (wake d xs i)
 woken d xs i =
@@ -236,4 +217,4 @@ woken d xs i =
 
 pub all-woken : (d : ℕ) (xs is : List Instruction) → Came xs is (wake-all d xs is)
 all-woken d xs [] = came-none xs
-all-woken d xs (i ∷ is) = came-more xs i is (wake d xs i) (wake-all d (wake d xs i) is) (woken d xs i) (all-woken d (wake d xs i) is)
+all-woken d xs (i ∷ is) = came-more xs i is (wake d xs i) (wake-all d (wake d xs i) is) (wake-bare d xs i) (woken d xs i) (all-woken d (wake d xs i) is)

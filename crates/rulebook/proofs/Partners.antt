@@ -1,35 +1,30 @@
 -- Over every list of calls: each joined instruction's partner, and the one joined to each that was matched.
 use mathlib.Core.Path.{_≡_, refl, ap, sym, subst, _∙_}
 use mathlib.Core.List.{List, [], _∷_, _++_}
-use mathlib.Core.Bool.{Bool, true, false, cond, not, _&&_}
+use mathlib.Core.Bool.{Bool, true, not, _&&_}
 use Prim.Native.Nat.{ℕ, _+_, _-_, _≤_, _<_}
 use native.Mathlib.Omega.{arith}
 use lib.Dec.{eqb, ltb}
-use Rattle.std.specs.declared.result.Result.{Result}
-use Rattle.std.specs.declared.result.Result.the-variants.{Ok, Err}
 use Rattle.std.specs.shelf.Lists.{All, Each}
 use Rattle.std.proofs.shelf.Elements.{all-append, all-weaker}
 use Rattle.std.proofs.shelf.Tests.{false≢true, cond-both, eq-eqb}
 use Rattle.std.proofs.shelf.Ways.{tells}
-use Rattle.refusals.specs.declared.Refusal.{Refusal}
-use Rattle.refusals.specs.declared.Refusal.the-variants.{WrongState}
 use Rattle.calendar.specs.Days.{passing}
 use Rattle.rulebook.specs.declared.Order.{Order}
 use Rattle.rulebook.specs.declared.Fate.the-variants as fate
 use Rattle.rulebook.specs.declared.Call.{Call}
-use Rattle.rulebook.specs.declared.Call.the-variants as call
-use Rattle.rulebook.specs.declared.Answer.the-variants as answer
-use Rattle.rulebook.specs.States.{on-no-day, opened}
-use Rattle.rulebook.specs.Words.{one-if, total, Amounts, Instruction, Setting, Book, Start}
-use Rattle.rulebook.specs.Checks.{verdict, today, is-shut, is-inside, has-serial}
+use Rattle.rulebook.specs.States.{opened}
+use Rattle.rulebook.specs.Words.{one-if, total, Amounts, Instruction, Book, Start}
+use Rattle.rulebook.specs.Checks.{today, is-inside, has-serial}
 use Rattle.rulebook.specs.Matching.{joins, same-order, counter, arrive, wake-all, leaves, leavers, stayers, cancelled-in}
-use Rattle.rulebook.specs.Rounds.{is-leg-refused, moved-to}
-use Rattle.rulebook.specs.Rules.{Outcome, does, incoming, with-order, rounded, legs-done, closing-list, shuts, close-work, checks, work, ruled, rule, book-by}
-use Rattle.rulebook.specs.Journal.{reads, new-past, setting-of, Past, accepted, step, history-from, history}
+use Rattle.rulebook.specs.Rules.{incoming, with-order, rounded, closing-list}
+use Rattle.rulebook.specs.Journal.{reads, new-past, setting-of, Past, accepted, step, history}
 use Rattle.rulebook.specs.Laws.{Sensible, with-serial, was-matched}
-use Rattle.rulebook.proofs.Totals.{total-append, total-split, member-le, all-passing}
-use Rattle.rulebook.proofs.Turns.{weigh, named, answering, joined-to, leads, leading, serials, Calm, Fits, Turn, round-turns, end-turns, cancel-turns, turned-serials, turned-fixed, turned-joined, turned-led, turned-calm, turned-fits}
-use Rattle.rulebook.proofs.Pairing.{Between, Came, kept-leads, arrived, all-woken}
+use Rattle.rulebook.proofs.Totals.{total-append, total-split, member-le, all-passing, total-plus, one-if-le, one-if-split, Member}
+use Rattle.rulebook.proofs.Turns.{weigh, named, answering, joined-to, leads, leading, Calm, Fits, Turn, round-turns, end-turns, cancel-turns, turned-joined, turned-led, turned-calm, turned-fits, turned-bare}
+use Rattle.rulebook.proofs.Pairing.{came-serials, came-fixed, Between, Came, kept-leads, arrived, all-woken}
+use Rattle.rulebook.proofs.Steps.{each-call, each-history}
+use Rattle.rulebook.proofs.Roll.{bare, bares, serials, serials-roll, total-roll, arrive-bare, wake-all-bare}
 
 -- over those on the list and those that left it
 abbrev pub over : List Instruction → List Instruction → (Instruction → ℕ) → ℕ
@@ -89,16 +84,19 @@ between-all low high (n ∷ ns) b = (between-below n high ns (b .1), between-all
 turned-kin : (is js gone : List Instruction) (next : ℕ) → Each Turn is js → Kin is gone next → Kin js gone next
 turned-kin is js gone next t h =
     record {
-      known = λ n. omega (arith, h .known n, turned-fixed (named n) is js (h .calm) t);
-      rising = subst (Between 0 next) (sym (turned-serials is js t)) (h .rising);
+      known = λ n. omega (arith, h .known n, total-roll (weigh (named n)) (λ _. refl) is js roll);
+      rising = subst (Between 0 next) (sym (serials-roll is js roll)) (h .rising);
       led = λ n. omega (arith, h .led n, turned-joined n is js (h .calm) t, turned-led n is js (h .calm) t);
       calm = turned-calm is js (h .calm) t;
       fits = turned-fits (answered is gone) (answered js gone) more is js (h .calm) t (h .fits);
       fits-gone = fits-more (answered is gone) (answered js gone) more gone (h .fits-gone);
     }
   where
+    roll : bares js ≡ bares is
+    roll = turned-bare is js t
+
     more : (n : ℕ) (o : Order) → answered is gone n o ≤ answered js gone n o
-    more n o = omega (arith, turned-fixed (answering n o) is js (h .calm) t)
+    more n o = omega (arith, total-roll (weigh (answering n o)) (λ _. refl) is js roll)
 
 -- a new instruction comes, with the next serial
 next-known : (n next x y : ℕ) → 0 < next → y ≡ x + one-if (eqb next n) → x ≡ one-if (ltb 0 n && ltb n next)
@@ -109,12 +107,12 @@ arrived-kin : (k : Book) (gone : List Instruction) (o : Order) → Akin-of gone 
 arrived-kin k gone o h =
     record {
       known = λ n. next-known n next (over is gone (weigh (named n))) (over js gone (weigh (named n)))
-          some (omega (arith, c .fixed (named n))) (h .known n);
-      rising = subst (Between 0 (next + 1)) (sym (c .numbers)) (between-push 0 next (serials is) (h .rising));
+          some (omega (arith, came-fixed (named n) is (i ∷ []) js roll)) (h .known n);
+      rising = subst (Between 0 (next + 1)) (sym (came-serials is (i ∷ []) js roll)) (between-push 0 next (serials is) (h .rising));
       led = λ n. omega (arith, h .led n, c .led n, kept-leads n i refl);
       calm = c .calm (h .calm) (λ _. refl, tt);
       fits = c .fits (answered js gone) (next - 1) (next + 1)
-          (λ n q. omega (arith, c .fixed (answering n q)))
+          (λ n q. omega (arith, came-fixed (answering n q) is (i ∷ []) js roll))
           (all-weaker (λ s. s < next) (λ s. s ≤ next - 1) (λ s l. omega arith) (serials is) (between-all 0 next (serials is) (h .rising)))
           (omega (arith, some), omega arith)
           (fits-more (answered is gone) (answered js gone) more is (h .fits))
@@ -134,6 +132,9 @@ arrived-kin k gone o h =
     js : List Instruction
     js = arrive (today k) is i
 
+    roll : bares js ≡ bares is ++ bare i ∷ []
+    roll = arrive-bare (today k) is i
+
     c : Came is (i ∷ []) js
     c = arrived (today k) is i refl
 
@@ -141,19 +142,19 @@ arrived-kin k gone o h =
     some = between-below 0 next (serials is) (h .rising)
 
     more : (n : ℕ) (q : Order) → answered is gone n q ≤ answered js gone n q
-    more n q = omega (arith, c .fixed (answering n q))
+    more n q = omega (arith, came-fixed (answering n q) is (i ∷ []) js roll)
 
 -- some leave the list, and those that were kept arrive
 opened-kin : (d : ℕ) (is gone : List Instruction) (next : ℕ) → Kin is gone next
     → Kin (wake-all d [] (stayers is)) (leavers is ++ gone) next
 opened-kin d is gone next h =
     record {
-      known = λ n. omega (arith, h .known n, c .fixed (named n), parts (weigh (named n)));
-      rising = subst (Between 0 next) (sym (c .numbers)) (between-passing 0 next stays is (h .rising));
+      known = λ n. omega (arith, h .known n, came-fixed (named n) [] (stayers is) js roll, parts (weigh (named n)));
+      rising = subst (Between 0 next) (sym (came-serials [] (stayers is) js roll)) (between-passing 0 next stays is (h .rising));
       led = λ n. omega (arith, h .led n, c .led n, parts (joined-to n), parts (leading n));
       calm = c .calm tt (all-passing Calm stays is (h .calm));
       fits = c .fits (answered js left) 0 next
-          (λ n o. omega (arith, c .fixed (answering n o)))
+          (λ n o. omega (arith, came-fixed (answering n o) [] (stayers is) js roll))
           tt
           (between-passing 0 next stays is (h .rising))
           tt
@@ -172,6 +173,9 @@ opened-kin d is gone next h =
     js : List Instruction
     js = wake-all d [] (stayers is)
 
+    roll : bares js ≡ bares (stayers is)
+    roll = wake-all-bare d [] (stayers is)
+
     c : Came [] (stayers is) js
     c = all-woken d [] (stayers is)
 
@@ -179,77 +183,42 @@ opened-kin d is gone next h =
     parts f = omega (arith, total-split f (leaves is) is, total-append f (leavers is) gone)
 
     more : (n : ℕ) (o : Order) → answered is gone n o ≤ answered js left n o
-    more n o = omega (arith, c .fixed (answering n o), parts (weigh (answering n o)))
+    more n o = omega (arith, came-fixed (answering n o) [] (stayers is) js roll, parts (weigh (answering n o)))
 
     fits-now : All (Fits (answered js left)) is
     fits-now = fits-more (answered is gone) (answered js left) more is (h .fits)
 
--- a refused call leaves the book
-ruled-both : (P : Book → Type 0) (k : Book) (v : Result Unit Refusal) (o : Outcome) → P k → P (book-by k o) → P (book-by k (ruled v o))
-ruled-both P k (Ok u) o a b = b
-ruled-both P k (Err r) o a b = a
+step-kin : (s : Start) (h : Past) (c : Call) → Akin h → Akin (step s h c)
+step-kin s h c a =
+    each-call s h (λ _ x _ gone. Kin (x .standing) gone (x .next))
+    record {
+      plain = λ _ _. a;
+      opening = λ _. opened-kin (opened (s .days) (k .standing) .day) is (h .departed) next a;
+      instructing = λ o _. arrived-kin k (h .departed) o a;
+      cancelling = λ p n. turned-kin is (cancelled-in p n is) (h .departed) next (cancel-turns p n is) a;
+      round = round-kin;
+      closing = λ _. turned-kin tried (closing-list (setting-of s) am k) (h .departed) next (end-turns (today k) tried) round-kin;
+      resting = λ _. a;
+    }
+    c
+  where
+    am : Amounts
+    am = reads (s .funds) (h .journal)
 
-module _ (s : Start) (h : Past) (a : Akin h) where
-  abbrev st : Setting
-  st = setting-of s
+    k : Book
+    k = h .book
 
-  abbrev am : Amounts
-  am = reads (s .funds) (h .journal)
+    is : List Instruction
+    is = k .instructions .standing
 
-  abbrev k : Book
-  k = h .book
+    next : ℕ
+    next = k .instructions .next
 
-  abbrev is : List Instruction
-  is = k .instructions .standing
+    tried : List Instruction
+    tried = rounded (setting-of s) am k .0
 
-  abbrev next : ℕ
-  next = k .instructions .next
-
-  by : (c : Call) → Akin-of (h .departed) (book-by k (work st am k c)) → Akin-of (h .departed) (book-by k (rule st am k c))
-  by c b = ruled-both (Akin-of (h .departed)) k (verdict (checks st am k c)) (work st am k c) a b
-
-  opening : (b : Bool)
-      → Kin
-      (book-by k (ruled (cond b (Ok tt) (Err WrongState)) (work st am k call.Opening)) .instructions .standing)
-      (cond b (leavers is) [] ++ h .departed)
-      (book-by k (ruled (cond b (Ok tt) (Err WrongState)) (work st am k call.Opening)) .instructions .next)
-  opening true = opened-kin (opened (st .days) (k .standing) .day) is (h .departed) next a
-  opening false = a
-
-  round-kin : Kin (rounded st am k .0) (h .departed) next
-  round-kin = turned-kin is (rounded st am k .0) (h .departed) next (round-turns st (today k) (k .blockings .standing) is am) a
-
-  closing : Akin-of (h .departed) (book-by k (close-work st am k))
-  closing =
-      cond-both
-      (eqb (k .standing .state) on-no-day)
-      (does (answer.Closed 0 0) (shuts k is) [])
-      (does
-      (answer.Closed (legs-done st am k) (moved-to is-leg-refused (rounded st am k .0) (closing-list st am k)))
-      (shuts k (closing-list st am k))
-      (rounded st am k .1))
-      (λ o. Akin-of (h .departed) (book-by k o))
-      (λ _. a)
-      (λ _. turned-kin (rounded st am k .0) (closing-list st am k) (h .departed) next (end-turns (today k) (rounded st am k .0)) round-kin)
-
-  step-kin : (c : Call) → Akin (step s h c)
-  step-kin call.Opening = opening (is-shut k)
-  step-kin (call.NewIssue i d) = by (call.NewIssue i d) a
-  step-kin (call.Placing o) = by (call.Placing o) a
-  step-kin (call.Instructing o) = by (call.Instructing o) (arrived-kin k (h .departed) o a)
-  step-kin (call.Cancelling p n) =
-      by (call.Cancelling p n) (turned-kin is (cancelled-in p n is) (h .departed) next (cancel-turns p n is) a)
-  step-kin (call.Blocking o) = by (call.Blocking o) a
-  step-kin (call.Releasing p n) = by (call.Releasing p n) a
-  step-kin call.Round = by call.Round round-kin
-  step-kin call.Closing = by call.Closing closing
-  step-kin (call.Redeeming i p) = by (call.Redeeming i p) a
-  step-kin (call.AskingStatus n) = by (call.AskingStatus n) a
-  step-kin (call.AskingHolding p i) = by (call.AskingHolding p i) a
-
-history-kin : (s : Start) (h : Past) (cs : List Call) → Akin h → Akin (history-from s h cs)
-history-kin s h [] a = a
-history-kin s h (c ∷ cs) a = history-kin s (step s h c) cs (step-kin s h a c)
+    round-kin : Kin tried (h .departed) next
+    round-kin = turned-kin is tried (h .departed) next (round-turns (setting-of s) (today k) (k .blockings .standing) is am) a
 
 new-kin : Akin new-past
 new-kin =
@@ -263,16 +232,9 @@ new-kin =
     }
 
 pub kin : (s : Start) (cs : List Call) → Akin (history s cs)
-kin s cs = history-kin s new-past cs new-kin
+kin s = each-history s Akin new-kin (λ cs c. step-kin s (history s cs) c)
 
 -- where a serial stands once at most, a test of those that have it is the test of the one
-split-two : (v t : Bool) → one-if (v && t) + one-if (v && not t) ≡ one-if v
-split-two v t = grind arith
-
-total-two : {X : Type 0} (f g h : X → ℕ) → ((x : X) → f x + g x ≡ h x) → (xs : List X) → total f xs + total g xs ≡ total h xs
-total-two f g h e [] = refl
-total-two f g h e (x ∷ xs) = omega (arith, e x, total-two f g h e xs)
-
 only-one : (v t : Bool) (a b : ℕ) → v ≡ true → one-if (v && t) ≤ a → one-if (v && not t) ≤ b → a + b ≤ 1 → a ≡ one-if t
 only-one v t a b e l m u = grind arith
 
@@ -281,13 +243,15 @@ has-and t n i = one-if (has-serial n i && t i)
 
 has-split : (t : Instruction → Bool) (n : ℕ) (is : List Instruction)
     → total (has-and t n) is + total (has-and (λ i. not (t i)) n) is ≡ total (weigh (named n)) is
-has-split t n = total-two (has-and t n) (has-and (λ i. not (t i)) n) (weigh (named n)) (λ i. split-two (has-serial n i) (t i))
+has-split t n is =
+    sym (total-plus (has-and t n) (has-and (λ i. not (t i)) n) is)
+    ∙ ap (λ (f : Instruction → ℕ). total f is) (λ k i. one-if-split (has-serial n i) (t i) k)
 
 by-serial : (t : Instruction → Bool) (is : List Instruction) → ((n : ℕ) → total (weigh (named n)) is ≤ 1)
     → All (λ i. total (has-and t (i .serial)) is ≡ one-if (t i)) is
 by-serial t is once =
     all-weaker
-    (λ i. (f : Instruction → ℕ) → f i ≤ total f is)
+    (Member is)
     (λ i. total (has-and t (i .serial)) is ≡ one-if (t i))
     (λ i m. only-one (has-serial (i .serial) i) (t i)
     (total (has-and t (i .serial)) is)
@@ -299,17 +263,12 @@ by-serial t is once =
     is
     (member-le is)
 
-one-if-le : (b : Bool) → one-if b ≤ 1
-one-if-le b = grind arith
+-- each serial given stands once
+pub remembered : (h : Past) → Akin h → (n : ℕ) → with-serial h n ≡ one-if (ltb 0 n && ltb n (h .book .instructions .next))
+remembered h a n = total-append (weigh (named n)) (h .book .instructions .standing) (h .departed) ∙ a .known n
 
-once : (h : Past) → Akin h → (n : ℕ) → total (weigh (named n)) (accepted h) ≤ 1
-once h a n =
-    omega (
-      arith,
-      total-append (weigh (named n)) (h .book .instructions .standing) (h .departed),
-      a .known n,
-      one-if-le (ltb 0 n && ltb n (h .book .instructions .next)),
-    )
+pub once : (h : Past) → Akin h → (n : ℕ) → with-serial h n ≤ 1
+once h a n = omega (arith, remembered h a n, one-if-le (ltb 0 n && ltb n (h .book .instructions .next)))
 
 -- one that was matched has exactly one joined to it, inside one participant none; no other has any
 pub joined-once-holds : (s : Start) → Sensible s → (cs : List Call)
@@ -369,9 +328,3 @@ partner-holds s _ cs =
 
     gone : List Instruction
     gone = history s cs .departed
-
--- each serial given stands once
-pub remembered-holds : (s : Start) → Sensible s → (cs : List Call) (n : ℕ)
-    → with-serial (history s cs) n ≡ one-if (ltb 0 n && ltb n (history s cs .book .instructions .next))
-remembered-holds s _ cs n =
-    total-append (weigh (named n)) (history s cs .book .instructions .standing) (history s cs .departed) ∙ kin s cs .known n

@@ -1,5 +1,5 @@
 -- No instruction waits past its value date, no repo is out past its return date.
-use mathlib.Core.Path.{_≡_, refl}
+use mathlib.Core.Path.{_≡_, refl, ap}
 use mathlib.Core.List.{List, [], _∷_, _++_}
 use mathlib.Core.Bool.{Bool, true, false, cond, not, _&&_, _||_}
 use mathlib.Core.Logic.{⊎-elim}
@@ -10,7 +10,7 @@ use Rattle.std.specs.declared.option.Option.{Option}
 use Rattle.std.specs.declared.option.Option.the-variants.{Some, None}
 use Rattle.std.specs.shelf.Lists.{All}
 use Rattle.std.proofs.shelf.Elements.{all-push, all-weaker, all-map}
-use Rattle.std.proofs.shelf.Tests.{cond-both, and-parts, and-right, or-cases, or-from, or-right, not-true, eqb-true, leb-false, le-ltb, lt-leb, both-ways}
+use Rattle.std.proofs.shelf.Tests.{or-left, or-parts, cond-both, and-parts, and-right, or-cases, or-from, or-right, not-true, eqb-true, leb-false, le-ltb, lt-leb, both-ways}
 use Rattle.std.proofs.shelf.Ways.{tells}
 use Rattle.calendar.specs.declared.Date.{Date}
 use Rattle.calendar.specs.Days.{passing, is-business, first-from, next-after}
@@ -21,13 +21,10 @@ use Rattle.rulebook.specs.States.{shut, on-a-day, on-no-day, Standing, opened-
 use Rattle.rulebook.specs.Words.{some-passes, Leg, first, return, Amounts, afters, Blocking, Instruction, turned, alike, Setting}
 use Rattle.rulebook.specs.Checks.{may-cancel}
 use Rattle.rulebook.specs.Matching.{same-order, counter, is-partner, pair-up, met, arrive, wake, wake-all, has-ended, joins, leaves, cancelled-in}
-use Rattle.rulebook.specs.Rounds.{is-day, waits, settles, try, settled-one, tried, try-moves, rounds, ended, ended-all}
+use Rattle.rulebook.specs.Rounds.{is-leg-refused, is-day, waits, settles, try, settled-one, tried, try-moves, rounds, ended, ended-all}
 use Rattle.rulebook.specs.Laws.{Rises-from, day-closed}
-use Rattle.rulebook.proofs.Effects.{ended-both, arrive-both, Is-due, try-both}
-
--- kept, unmatched or matched: neither settled, refused, cancelled nor joined
-abbrev pub is-waiting : Fate → Bool
-is-waiting f = alike f fate.Kept || (alike f fate.Unmatched || alike f fate.Matched)
+use Rattle.rulebook.proofs.Ways.{Ready, try-both, ended-both, cancel-both, arrive-both, is-waiting}
+use Rattle.rulebook.proofs.Totals.{all-passes}
 
 abbrev pub value : Order → ℕ
 value o = o .«value_date» .number
@@ -48,6 +45,8 @@ pub record Stands (days : List ℕ) (sd : Standing) (o : Order) (f : Fate) : Typ
   pub fit : Fit days o
   pub punctual : Punctual sd o f
   pub patient : alike f fate.Kept ≡ true → sd .day < value o
+  pub arrived : alike f fate.Unmatched || alike f fate.Matched ≡ true → value o ≤ sd .day
+  pub refused : is-leg-refused f ≡ true → sd .state ≡ shut
 
 abbrev pub Well : List ℕ → Standing → Instruction → Type 0
 Well days sd i = Stands days sd (i .order) (i .fate)
@@ -56,11 +55,15 @@ Well days sd i = Stands days sd (i .order) (i .fate)
 abbrev pub Over : Instruction → Type 0
 Over i = (sd : Standing) → Punctual sd (i .order) (i .fate)
 
--- what holds of one that comes to the list
+-- what holds of one that comes to the list: it has not arrived, and closing has not refused it
 abbrev pub Comes : List ℕ → Standing → Instruction → Type 0
-Comes days sd i = Fit days (i .order) × Punctual sd (i .order) (i .fate)
+Comes days sd i =
+    Fit days (i .order)
+    × Punctual sd (i .order) (i .fate)
+    × (alike (i .fate) fate.Unmatched || alike (i .fate) fate.Matched ≡ true → ⊥)
+    × (is-leg-refused (i .fate) ≡ true → ⊥)
 
-never : {X : Type 0} → false ≡ true → X
+pub never : {X : Type 0} → false ≡ true → X
 never e = absurd (both-ways false refl e)
 
 -- a fate that waits for nothing more than the one before
@@ -114,27 +117,49 @@ first-least m n (b ∷ bs) d v r e h l = go (leb n b) refl e (λ y w. first-leas
         (λ w. more y w)
         (or-cases (eqb b v) (is-business v bs) h)
 
+-- a shut register waits for later dates only, and an open one for none before today
+shut-later : (sd : Standing) (v : ℕ) → eqb (sd .state) shut ≡ true → day-closed sd v ≡ false → sd .day < v
+shut-later sd v s h = grind (arith, tells)
+
+open-from : (sd : Standing) (v : ℕ) → day-closed sd v ≡ false → sd .day ≤ v
+open-from sd v h = grind (arith, tells)
+
+-- a matched one's value date is today
+pub due-day : (days : List ℕ) (sd : Standing) (i : Instruction) → Well days sd i → i .fate ≡ fate.Matched → value (i .order) ≡ sd .day
+due-day days sd i h e =
+    omega (
+      arith,
+      h .arrived (ap (λ f. alike f fate.Unmatched || alike f fate.Matched) e),
+      open-from sd (value (i .order)) (h .punctual .waiting (ap is-waiting e)),
+    )
+
 -- opening closes no business day
 opening-open : (days : List ℕ) (sd : Standing) (v : ℕ) → Rises-from 0 days → eqb (sd .state) shut ≡ true → is-business v days ≡ true
     → day-closed sd v ≡ false → day-closed (opened days sd) v ≡ false
 opening-open days sd v r s b h = go (next-after (sd .day) days) refl
   where
-    later : sd .day < v
-    later = grind (arith, tells)
-
     go : (o : Option ℕ) → next-after (sd .day) days ≡ o → day-closed (opened-on o sd) v ≡ false
-    go None e = lt-leb v (sd .day) later
-    go (Some d) e = le-ltb v d (first-least 0 (sd .day + 1) days d v r e b (omega (arith, later)))
+    go None e = lt-leb v (sd .day) (shut-later sd v s h)
+    go (Some d) e = le-ltb v d (first-least 0 (sd .day + 1) days d v r e b (omega (arith, shut-later sd v s h)))
+
+refused-ended : (f : Fate) → is-leg-refused f ≡ true → has-ended f ≡ true
+refused-ended f e = grind arith
 
 pub opening-punctual : (days : List ℕ) (sd : Standing) → Rises-from 0 days → eqb (sd .state) shut ≡ true
-    → (i : Instruction) → Well days sd i → Comes days (opened days sd) i
-opening-punctual days sd r s i h = (
+    → (i : Instruction) → Well days sd i → has-ended (i .fate) ≡ false → Comes days (opened days sd) i
+opening-punctual days sd r s i h stays = (
   h .fit,
   record {
     waiting = λ e. opening-open days sd (value (i .order)) r s (h .fit .value-date) (h .punctual .waiting e);
     out = λ e d x. opening-open days sd (d .number) r s (h .fit .return-date d x .0) (h .punctual .out e d x);
     plain = h .punctual .plain;
   },
+  λ e. omega (
+    arith,
+    h .arrived e,
+    shut-later sd (value (i .order)) s (h .punctual .waiting (or-right (alike (i .fate) fate.Kept) (alike (i .fate) fate.Unmatched || alike (i .fate) fate.Matched) e)),
+  ),
+  λ e. both-ways (has-ended (i .fate)) stays (refused-ended (i .fate) e),
 )
 
 -- an unmatched one that is matched still waits; so does a kept one that arrives
@@ -143,6 +168,9 @@ matched-quieter f h = record { waiting = λ e. grind arith; out = λ e. never e;
 
 arrived-quieter : (f g : Fate) → alike f fate.Kept ≡ true → (alike g fate.Kept || (alike g fate.Unmatched || alike g fate.Matched)) ≡ true → Quieter f g
 arrived-quieter f g h k = record { waiting = λ e. grind arith; out = λ e. grind arith; plain = λ e. grind arith }
+
+waiting-open : (g : Fate) → is-waiting g ≡ true → is-leg-refused g ≡ false
+waiting-open g w = grind arith
 
 pair-well : (days : List ℕ) (sd : Standing) (o : Order) (xs : List Instruction) → All (Well days sd) xs → All (Well days sd) (pair-up o xs .0)
 pair-well days sd o [] a = tt
@@ -158,6 +186,8 @@ pair-well days sd o (x ∷ xs) a =
         fit = a .0 .fit;
         punctual = quieter sd (x .order) (x .fate) fate.Matched (matched-quieter (x .fate) (p .0)) (a .0 .punctual);
         patient = λ e. never e;
+        arrived = λ _. a .0 .arrived (or-left (alike (x .fate) fate.Unmatched) (alike (x .fate) fate.Matched) (p .0));
+        refused = λ e. never e;
       },
       a .1,
     ))
@@ -167,20 +197,32 @@ pub arrive-well : (days : List ℕ) (sd : Standing) (xs : List Instruction) (i :
     → All (Well days sd) xs → Comes days sd i → All (Well days sd) (arrive (sd .day) xs i)
 arrive-well days sd xs i k a h =
     arrive-both (sd .day) xs i (All (Well days sd))
-    (all-push (Well days sd) xs (turned i fate.Matched None) a (as-one fate.Matched refl (λ e. never e)))
-    (by-found (pair-up (i .order) xs .0) (pair-up (i .order) xs .1) (pair-well days sd (i .order) xs a))
-    (λ l. all-push (Well days sd) xs (turned i fate.Kept None) a (as-one fate.Kept refl (λ _. l)))
+    (λ l _. all-push (Well days sd) xs (turned i fate.Matched None) a (as-one fate.Matched refl (λ e. never e) (λ _. l)))
+    (λ l _. by-found (pair-up (i .order) xs .0) (pair-up (i .order) xs .1) (pair-well days sd (i .order) xs a) l)
+    (λ l. all-push (Well days sd) xs (turned i fate.Kept None) a (as-one fate.Kept refl (λ _. l) (λ e. never e)))
   where
-    as-one : (g : Fate) → (alike g fate.Kept || (alike g fate.Unmatched || alike g fate.Matched)) ≡ true → (alike g fate.Kept ≡ true → sd .day < value (i .order))
-        → Stands days sd (i .order) g
-    as-one g w p =
-        record { fit = h .0; punctual = quieter sd (i .order) (i .fate) g (arrived-quieter (i .fate) g k w) (h .1); patient = p }
+    as-one : (g : Fate) → is-waiting g ≡ true → (alike g fate.Kept ≡ true → sd .day < value (i .order))
+        → (alike g fate.Unmatched || alike g fate.Matched ≡ true → value (i .order) ≤ sd .day) → Stands days sd (i .order) g
+    as-one g w p q =
+        record {
+          fit = h .0;
+          punctual = quieter sd (i .order) (i .fate) g (arrived-quieter (i .fate) g k w) (h .1);
+          patient = p;
+          arrived = q;
+          refused = λ e. absurd (both-ways (is-leg-refused g) (waiting-open g w) e);
+        }
 
-    by-found : (ys : List Instruction) (r : Option ℕ) → All (Well days sd) ys → All (Well days sd) (ys ++ met i r ∷ [])
-    by-found ys None b = all-push (Well days sd) ys (turned i fate.Unmatched None) b (as-one fate.Unmatched refl (λ e. never e))
-    by-found ys (Some s) b =
+    by-found : (ys : List Instruction) (r : Option ℕ) → All (Well days sd) ys → value (i .order) ≤ sd .day → All (Well days sd) (ys ++ met i r ∷ [])
+    by-found ys None b l = all-push (Well days sd) ys (turned i fate.Unmatched None) b (as-one fate.Unmatched refl (λ e. never e) (λ _. l))
+    by-found ys (Some s) b l =
         all-push (Well days sd) ys (turned i (fate.Joined s) None) b
-        record { fit = h .0; punctual = done-with sd (i .order) (fate.Joined s) refl refl refl; patient = λ e. never e }
+        record {
+          fit = h .0;
+          punctual = done-with sd (i .order) (fate.Joined s) refl refl refl;
+          patient = λ e. never e;
+          arrived = λ e. never e;
+          refused = λ e. never e;
+        }
 
 wake-well : (days : List ℕ) (sd : Standing) (xs : List Instruction) (i : Instruction)
     → All (Well days sd) xs → Comes days sd i → All (Well days sd) (wake (sd .day) xs i)
@@ -191,7 +233,13 @@ wake-well days sd xs i a h =
     (xs ++ i ∷ [])
     (All (Well days sd))
     (λ e. arrive-well days sd xs i e a h)
-    (λ e. all-push (Well days sd) xs i a record { fit = h .0; punctual = h .1; patient = λ k. absurd (both-ways (alike (i .fate) fate.Kept) e k) })
+    (λ e. all-push (Well days sd) xs i a record {
+      fit = h .0;
+      punctual = h .1;
+      patient = λ k. absurd (both-ways (alike (i .fate) fate.Kept) e k);
+      arrived = λ k. absurd (h .2 k);
+      refused = λ k. absurd (h .3 k);
+    })
 
 pub wake-all-well : (days : List ℕ) (sd : Standing) (xs is : List Instruction)
     → All (Well days sd) xs → All (Comes days sd) is → All (Well days sd) (wake-all (sd .day) xs is)
@@ -206,17 +254,13 @@ cancel-well days sd p n xs a =
   where
     one : (i : Instruction) → Well days sd i → Well days sd (cond (may-cancel p n i) (turned i fate.Cancelled (i .cause)) i)
     one i h =
-        cond-both
-        (may-cancel p n i)
-        (turned i fate.Cancelled (i .cause))
-        i
-        (Well days sd)
-        (λ _. record { fit = h .fit; punctual = done-with sd (i .order) fate.Cancelled refl refl refl; patient = λ e. never e })
-        (λ _. h)
+        cancel-both p n i (Well days sd)
+        (λ _. record { fit = h .fit; punctual = done-with sd (i .order) fate.Cancelled refl refl refl; patient = λ e. never e; arrived = λ e. never e; refused = λ e. never e })
+        h
 
 -- a first leg that settles leaves a repo out until a later date, or settles whole
 settled-well : (days : List ℕ) (sd : Standing) (i : Instruction) (l : Leg) (r : Option Date) → i .order .«return_date» ≡ r
-    → Is-due (sd .day) (i .order) (i .fate) (Some l) → Well days sd i → Well days sd (settled-one i l r)
+    → Ready (sd .day) i l → Well days sd i → Well days sd (settled-one i l r)
 settled-well days sd i first None q e h =
     record {
       fit = h .fit;
@@ -227,6 +271,8 @@ settled-well days sd i first None q e h =
             plain = λ x d y. let z : _≡_ {A = ℕ} 0 1 = cc in omega arith;
           };
       patient = λ x. never x;
+      arrived = λ x. never x;
+      refused = λ x. never x;
     }
 settled-well days sd i first (Some d) q e h =
     record {
@@ -236,22 +282,25 @@ settled-well days sd i first (Some d) q e h =
             waiting = λ x. never x;
             out = λ x c y.
                 later-open sd (value (i .order)) (c .number) (omega (arith, h .fit .return-date c y .1))
-                (h .punctual .waiting (or-right (alike (i .fate) fate.Kept) (alike (i .fate) fate.Unmatched || alike (i .fate) fate.Matched) (or-right (alike (i .fate) fate.Unmatched) (alike (i .fate) fate.Matched) e)));
+                (h .punctual .waiting (or-right (alike (i .fate) fate.Kept) (alike (i .fate) fate.Unmatched || alike (i .fate) fate.Matched) (or-right (alike (i .fate) fate.Unmatched) (alike (i .fate) fate.Matched) (ap (λ f. alike f fate.Matched) e))));
             plain = λ x. never x;
           };
       patient = λ x. never x;
+      arrived = λ x. never x;
+      refused = λ x. never x;
     }
 settled-well days sd i return r q e h =
-    record { fit = h .fit; punctual = done-with sd (i .order) fate.RepoBack refl refl refl; patient = λ x. never x }
+    record { fit = h .fit; punctual = done-with sd (i .order) fate.RepoBack refl refl refl; patient = λ x. never x; arrived = λ x. never x; refused = λ x. never x }
 
 pub round-well : (days : List ℕ) (sd : Standing) (st : Setting) (bs : List Blocking) (is : List Instruction) (a : Amounts)
     → All (Well days sd) is → All (Well days sd) (rounds st (sd .day) bs is a .0)
 round-well days sd st bs [] a w = tt
 round-well days sd st bs (i ∷ is) a w = (
   try-both st (sd .day) bs a i (λ t. Well days sd (tried i t))
-      (w .0)
-      (λ c. w .0)
-      (λ l e. settled-well days sd i l (i .order .«return_date») refl e (w .0)),
+      (λ _ _. w .0)
+      (λ _ _ _. w .0)
+      (λ _ _ _ _. w .0)
+      (λ l e _ _. settled-well days sd i l (i .order .«return_date») refl e (w .0)),
   round-well days sd st bs is (afters (try-moves st (sd .day) i (try st (sd .day) bs a i)) a) (w .1),
 )
 
@@ -272,11 +321,19 @@ end-one days sd s i h =
             plain = h .punctual .plain;
           };
       patient = h .patient;
+      arrived = λ e. absurd (both-ways _ (or-from (alike (i .fate) fate.Unmatched) (alike (i .fate) fate.Matched) u m) e);
+      refused = λ _. refl;
     })
   where
     refused : (g : Fate) → is-waiting g ≡ false → alike g fate.RepoOut ≡ false → alike g fate.Settled ≡ false → alike g fate.Kept ≡ false → Stands days (closed sd) (i .order) g
     refused g a b c k =
-        record { fit = h .fit; punctual = done-with (closed sd) (i .order) g a b c; patient = λ e. absurd (both-ways (alike g fate.Kept) k e) }
+        record {
+          fit = h .fit;
+          punctual = done-with (closed sd) (i .order) g a b c;
+          patient = λ e. absurd (both-ways (alike g fate.Kept) k e);
+          arrived = λ e. absurd (both-ways _ (or-parts (alike g fate.Kept) (alike g fate.Unmatched || alike g fate.Matched) a .1) e);
+          refused = λ _. refl;
+        }
 
     only-kept : (k u m : Bool) → (k || (u || m)) ≡ true → u ≡ false → m ≡ false → k ≡ true
     only-kept k u m e x y = grind arith
@@ -304,6 +361,8 @@ rest-well days sd s i h =
             plain = h .punctual .plain;
           };
       patient = h .patient;
+      arrived = h .arrived;
+      refused = λ _. refl;
     }
   where
     same : (v : ℕ) → day-closed sd v ≡ false → leb v (sd .day) ≡ false
@@ -340,21 +399,14 @@ leaver-past xs i h = go (i .fate) h
     go fate.Cancelled e = refl
 
 pub leavers-over : (days : List ℕ) (sd : Standing) (xs ys : List Instruction) → All (Well days sd) ys → All Over (passing (leaves xs) ys)
-leavers-over days sd xs [] a = tt
-leavers-over days sd xs (i ∷ ys) a =
-    cond-both
-    (leaves xs i)
-    (i ∷ passing (leaves xs) ys)
+leavers-over days sd xs ys a =
+    all-weaker (λ i. Well days sd i × (leaves xs i ≡ true)) Over
+    (λ i h se.
+    let p = and-parts (not (is-waiting (i .fate))) (not (alike (i .fate) fate.RepoOut)) (leaver-past xs i (h .1)) in
+    record {
+      waiting = λ x. absurd (both-ways (is-waiting (i .fate)) (not-true (is-waiting (i .fate)) (p .0)) x);
+      out = λ x. absurd (both-ways (alike (i .fate) fate.RepoOut) (not-true (alike (i .fate) fate.RepoOut) (p .1)) x);
+      plain = h .0 .punctual .plain;
+    })
     (passing (leaves xs) ys)
-    (All Over)
-    (λ e. (one (leaver-past xs i e), leavers-over days sd xs ys (a .1)))
-    (λ _. leavers-over days sd xs ys (a .1))
-  where
-    one : is-past (i .fate) ≡ true → Over i
-    one e sd =
-        let p = and-parts (not (is-waiting (i .fate))) (not (alike (i .fate) fate.RepoOut)) e in
-        record {
-          waiting = λ x. absurd (both-ways (is-waiting (i .fate)) (not-true (is-waiting (i .fate)) (p .0)) x);
-          out = λ x. absurd (both-ways (alike (i .fate) fate.RepoOut) (not-true (alike (i .fate) fate.RepoOut) (p .1)) x);
-          plain = a .0 .punctual .plain;
-        }
+    (all-passes (Well days sd) (leaves xs) ys a)

@@ -3,7 +3,7 @@ use mathlib.Core.Path.{_≡_, refl, ap, sym, subst, _∙_}
 use mathlib.Core.List.{List, [], _∷_}
 use mathlib.Core.Bool.{Bool, true, false, cond, not, _&&_}
 use mathlib.Core.Logic.{_⊎_, inl, inr}
-use Prim.Native.Nat.{ℕ, zero, suc, _+_, _-_, _≤_, _<_}
+use Prim.Native.Nat.{ℕ, _+_, _-_, _≤_, _<_}
 use native.Mathlib.Omega.{arith}
 use lib.Dec.{eqb, ltb}
 use lib.ListN.{length}
@@ -20,44 +20,17 @@ use Rattle.rulebook.specs.declared.Pledge.{Pledge}
 use Rattle.rulebook.specs.declared.Call.{Call}
 use Rattle.rulebook.specs.declared.Call.the-variants as call
 use Rattle.rulebook.specs.States.{on-no-day}
-use Rattle.rulebook.specs.Words.{sum-below, same-side, Place, place, same, at, Payment, first, return, Movement, placed, settled, redeemed, takes, brings, money, out-of, into, Amounts, after, afters, Blocking, Instruction, Setting, Book, Start, blocked, free, account, payment, priced, outstanding}
+use Rattle.rulebook.specs.Words.{total, sum-below, same-side, Place, place, same, at, Payment, first, return, Movement, placed, settled, redeemed, takes, brings, money, out-of, into, Amounts, after, afters, Blocking, Instruction, Setting, Book, Start, blocked, free, account, payment, priced, outstanding}
 use Rattle.rulebook.specs.Checks.{knows, today, held, place-checks, pledge-place, block-checks, is-blocking, redeem-checks}
 use Rattle.rulebook.specs.Rules.{Outcome, checks, work, rule, book-by, moves-by, placing, granted, redeeming}
-use Rattle.rulebook.specs.Journal.{taken, brought, paid, received, had, reads, setting-of, Past, new-past, outcome, step, history-from, history}
-use Rattle.rulebook.specs.Laws.{Sensible}
-use Rattle.rulebook.proofs.Totals.{total-push, total-passing-le, sum-below-same}
+use Rattle.rulebook.specs.Journal.{taken, brought, paid, received, had, reads, setting-of, Past, new-past, outcome, step, history}
+use Rattle.rulebook.specs.Laws.{Sensible, places, redeems}
+use Rattle.rulebook.proofs.Totals.{total-push, total-passing-le, sum-below-same, sum-below-zero, sum-below-at, sum-below-shift, sum-below-one, total-append}
 use Rattle.rulebook.proofs.Answering.{Passes, rule-both}
 use Rattle.rulebook.proofs.Covered.{at-le, Along, Legs-keep, moves-along, Covered, covers}
 use Rattle.rulebook.proofs.Agreement.{Backed, none-backed, entered}
-use Rattle.rulebook.proofs.Ordered.{Orders, ordered}
-
--- sums below a number
-pub sum-below-zero : (n : ℕ) (f : ℕ → ℕ) → ((x : ℕ) → f x ≡ 0) → sum-below n f ≡ 0
-sum-below-zero zero f h = refl
-sum-below-zero (suc n) f h = omega (arith, h n, sum-below-zero n f h)
-
-pub sum-below-at : (n x : ℕ) (f : ℕ → ℕ) → x < n → f x ≤ sum-below n f
-sum-below-at zero x f l = omega arith
-sum-below-at (suc n) x f l = go (λ h. sum-below-at n x f h) (cases-lt x n)
-  where
-    go : (x < n → f x ≤ sum-below n f) → (x < n) ⊎ (n ≤ x) → f x ≤ sum-below n f + f n
-    go le (inl h) = omega (arith, le h)
-    go le (inr h) = let e : x ≡ n = omega arith in rw e (omega arith)
-
--- what changes in each place changes in the sum
-pub sum-below-shift : (n : ℕ) (f g out in′ : ℕ → ℕ) → ((x : ℕ) → g x + out x ≡ f x + in′ x)
-    → sum-below n g + sum-below n out ≡ sum-below n f + sum-below n in′
-sum-below-shift zero f g out in′ h = refl
-sum-below-shift (suc n) f g out in′ h = omega (arith, h n, sum-below-shift n f g out in′ h)
-
--- what stands in one place
-pub sum-below-one : (n g m : ℕ) → sum-below n (λ x. cond (eqb g x) m 0) ≡ cond (ltb g n) m 0
-sum-below-one zero g m = grind (arith, tells)
-sum-below-one (suc n) g m = go (sum-below-one n g m)
-  where
-    go : sum-below n (λ x. cond (eqb g x) m 0) ≡ cond (ltb g n) m 0
-        → sum-below n (λ x. cond (eqb g x) m 0) + cond (eqb g n) m 0 ≡ cond (ltb g (suc n)) m 0
-    go h = rw h (grind (arith, tells))
+use Rattle.rulebook.proofs.Ordered.{Orders, orders-hold, orders-plain}
+use Rattle.rulebook.proofs.Steps.{each-history}
 
 -- nominal at a place is one participant's, of one issue, on one side
 both-sides : (x y : Bool) (s : Side) (m : ℕ)
@@ -118,30 +91,79 @@ module _ (st : Setting) (b : ℕ) (bs : List Blocking) where
       (λ p. brings v (place p i Own) + brings v (place p i Customer))
       (λ p. omega (arith, c .nominal (place p i Own), c .nominal (place p i Customer)))
 
-  bounds : (a : Amounts) (v : Movement) (i : ℕ) → Covered bs a v → Allowed st b a v → outstanding st a i ≤ 1000000000000000
-      → outstanding st (after v a) i ≤ 1000000000000000
-  bounds a (placed d p m y) i c w h =
-      go (cases-bool (eqb (p .issue) i))
+  cond-plus : (t : Bool) (u c : ℕ) → cond t u 0 + cond t c 0 ≡ cond t (u + c) 0
+  cond-plus t u c = grind arith
+
+  -- what a redemption takes of an issue
+  redeemed-sum : (p k u c i : ℕ) → p < st .participants
+      → sum-below (st .participants) (λ x.
+      (at (place p k Own) u (place x i Own) + at (place p k Customer) c (place x i Own))
+      + (at (place p k Own) u (place x i Customer) + at (place p k Customer) c (place x i Customer)))
+      ≡ cond (eqb k i) (u + c) 0
+  redeemed-sum p k u c i l =
+      omega (
+        arith,
+        sum-below-shift (st .participants) own
+            (λ x.
+            (at (place p k Own) u (place x i Own) + at (place p k Customer) c (place x i Own))
+            + (at (place p k Own) u (place x i Customer) + at (place p k Customer) c (place x i Customer)))
+            (λ _. 0)
+            customer
+            (λ x. omega arith),
+        sum-below-zero (st .participants) (λ _. 0) (λ _. refl),
+        at-sum (st .participants) i u (place p k Own) l,
+        at-sum (st .participants) i c (place p k Customer) l,
+        cond-plus (eqb k i) u c,
+      )
     where
-      go : (eqb (p .issue) i ≡ true) ⊎ (eqb (p .issue) i ≡ false) → outstanding st (after (placed d p m y) a) i ≤ 1000000000000000
-      go (inl t) =
-          let l : outstanding st a i + m ≤ 1000000000000000 = rw (← eqb-true (p .issue) i t) (w .1) in
-          omega (arith, outstanding-after a (placed d p m y) i c, at-sum (st .participants) i m p (w .0), cond-true (eqb (p .issue) i) m 0 t)
-      go (inr t) = omega (arith, outstanding-after a (placed d p m y) i c, at-sum (st .participants) i m p (w .0), cond-false (eqb (p .issue) i) m 0 t)
-  bounds a (settled d t e g r m y) i c w h =
-      let f : cond (eqb (g .issue) i) m 0 ≡ cond (eqb (r .issue) i) m 0 = ap {B = ℕ} (λ k. cond (eqb k i) m 0) (w .2) in
+      own : ℕ → ℕ
+      own x = at (place p k Own) u (place x i Own) + at (place p k Own) u (place x i Customer)
+
+      customer : ℕ → ℕ
+      customer x = at (place p k Customer) c (place x i Own) + at (place p k Customer) c (place x i Customer)
+
+  -- what a movement brings to an issue it takes from it, unless it places or redeems
+  flow : (a : Amounts) (v : Movement) (i : ℕ) → Covered bs a v → Allowed st b a v
+      → outstanding st (after v a) i + redeems i v ≡ outstanding st a i + places i v
+  flow a (placed d p m y) i c w =
+      omega (
+        arith,
+        outstanding-after a (placed d p m y) i c,
+        at-sum (st .participants) i m p (w .0),
+        sum-below-zero (st .participants) (λ _. 0 + 0) (λ _. refl),
+      )
+  flow a (settled d t e g r m y) i c w =
       omega (
         arith,
         outstanding-after a (settled d t e g r m y) i c,
         at-sum (st .participants) i m g (w .0),
         at-sum (st .participants) i m r (w .1),
+        ap {B = ℕ} (λ k. cond (eqb k i) m 0) (w .2),
       )
-  bounds a (redeemed d p k u q y) i c w h =
+  flow a (redeemed d p k u q y) i c w =
       omega (
         arith,
         outstanding-after a (redeemed d p k u q y) i c,
+        redeemed-sum p k u q i (w .0),
         sum-below-zero (st .participants) (λ _. 0 + 0) (λ _. refl),
       )
+
+  pub flows : (a : Amounts) (vs : List Movement) (i : ℕ) → Along (Covered bs) vs a → Along (Allowed st b) vs a
+      → outstanding st (afters vs a) i + total (redeems i) vs ≡ outstanding st a i + total (places i) vs
+  flows a [] i c w = refl
+  flows a (v ∷ vs) i c w = omega (arith, flow a v i (c .0) (w .0), flows (after v a) vs i (c .1) (w .1))
+
+  bounds : (a : Amounts) (v : Movement) (i : ℕ) → Covered bs a v → Allowed st b a v → outstanding st a i ≤ 1000000000000000
+      → outstanding st (after v a) i ≤ 1000000000000000
+  bounds a (placed d p m y) i c w h = go (cases-bool (eqb (p .issue) i))
+    where
+      go : (eqb (p .issue) i ≡ true) ⊎ (eqb (p .issue) i ≡ false) → outstanding st (after (placed d p m y) a) i ≤ 1000000000000000
+      go (inl t) =
+          let l : outstanding st a i + m ≤ 1000000000000000 = rw (← eqb-true (p .issue) i t) (w .1) in
+          omega (arith, flow a (placed d p m y) i c w, cond-true (eqb (p .issue) i) m 0 t)
+      go (inr t) = omega (arith, flow a (placed d p m y) i c w, cond-false (eqb (p .issue) i) m 0 t)
+  bounds a (settled d t e g r m y) i c w h = omega (arith, flow a (settled d t e g r m y) i c w)
+  bounds a (redeemed d p k u q y) i c w h = omega (arith, flow a (redeemed d p k u q y) i c w)
 
   stays-outside : (a : Amounts) (v : Movement) (q : Place) → Allowed st b a v → st .participants ≤ q .participant → brings v q ≡ 0
   stays-outside a (placed d p m y) q w l = at-elsewhere p q m (omega (arith, w .0))
@@ -271,7 +293,7 @@ module _ (s : Start) (w : Sensible s) where
       (all-weaker (λ i. Among (s .participants) (i .order)) (Legs-keep (Allowed st accounts) st (today k) (k .blockings .standing))
       (leg-allowed (today k) (k .blockings .standing))
       (k .instructions .standing)
-      h)
+      (orders-plain (Among (s .participants)) (k .instructions .standing) h))
       (redeem-allowed a k)
 
   abbrev fund : ℕ
@@ -281,7 +303,8 @@ module _ (s : Start) (w : Sensible s) where
   pub record Kept (h : Past) : Type 0 where
     pub backed : Backed (s .funds) (h .journal)
     pub sound : Sound st accounts fund (h .book .blockings .standing) (reads (s .funds) (h .journal))
-    pub orders : Orders (Among (s .participants)) (h .book .instructions .standing)
+    pub issued : (i : ℕ)
+        → outstanding st (reads (s .funds) (h .journal)) i + total (redeems i) (h .journal) ≡ total (places i) (h .journal)
 
   first-kept : Kept new-past
   first-kept =
@@ -293,18 +316,26 @@ module _ (s : Start) (w : Sensible s) where
           bounded = λ i. omega (arith, sum-below-zero (s .participants) (λ _. 0 - 0 + (0 - 0)) (λ _. refl));
           conserved = sum-below-same accounts (λ x. had (s .funds) x + 0 - 0) (λ x. had (s .funds) x) (λ x _. omega arith);
         };
-        orders = tt;
+        issued = λ i. omega (arith, sum-below-zero (s .participants) (λ _. 0 - 0 + (0 - 0)) (λ _. refl));
       }
 
-  step-kept : (h : Past) (c : Call) → Kept h → Kept (step s h c)
-  step-kept h c g =
+  among : (cs : List Call) → Orders (Among (s .participants)) (history s cs .book .instructions .standing)
+  among =
+      orders-hold (Among (s .participants)) s
+      (λ k o q.
+      let m = and-parts (knows st (o .transferor)) (knows st (o .acquirer)) (q .1 .0) in
+      (known (o .transferor) (m .0), known (o .acquirer) (m .1)))
+
+  step-kept : (h : Past) (c : Call) → Orders (Among (s .participants)) (h .book .instructions .standing) → Kept h → Kept (step s h c)
+  step-kept h c orders g =
       let a = reads (s .funds) (h .journal) in
       let k = h .book in
       let bs = k .blockings .standing in
       let vs = moves-by (outcome s h c) in
       let cov = covers st a k c in
       let e = entered (s .funds) (h .journal) bs vs (g .backed) cov in
-      let f = sound-afters st accounts bs fund a vs (g .sound) cov (allows a k c (g .orders)) in
+      let ok = allows a k c orders in
+      let f = sound-afters st accounts bs fund a vs (g .sound) cov ok in
       let b : Sound st accounts fund (step s h c .book .blockings .standing) (afters vs a) = record {
         covered = blocks-covered st a k c (f .covered);
         outside = f .outside;
@@ -314,18 +345,19 @@ module _ (s : Start) (w : Sensible s) where
       record {
         backed = e .1;
         sound = subst (Sound st accounts fund (step s h c .book .blockings .standing)) (e .0) b;
-        orders = ordered (Among (s .participants)) st a k c (g .orders)
-            (λ o q.
-            let m = and-parts (knows st (o .transferor)) (knows st (o .acquirer)) (q .1 .0) in
-            (known (o .transferor) (m .0), known (o .acquirer) (m .1)));
+        issued = λ i.
+            omega (
+              arith,
+              g .issued i,
+              flows st accounts bs a vs i cov ok,
+              ap (λ (x : Amounts). outstanding st x i) (e .0),
+              total-append (redeems i) (h .journal) vs,
+              total-append (places i) (h .journal) vs,
+            );
       }
 
-  pub kept-from : (h : Past) (cs : List Call) → Kept h → Kept (history-from s h cs)
-  kept-from h [] g = g
-  kept-from h (c ∷ cs) g = kept-from (step s h c) cs (step-kept h c g)
-
   pub kept : (cs : List Call) → Kept (history s cs)
-  kept cs = kept-from new-past cs first-kept
+  kept = each-history s Kept first-kept (λ cs c. step-kept (history s cs) c (among cs))
 
 -- the quantities of a past
 pub record Quantities (s : Start) (h : Past) : Type 0 where
@@ -359,11 +391,11 @@ quantities s w cs =
     let h = history s cs in
     let k = kept s w cs in
     record {
-      nominal = λ p. omega (arith, k .backed .nominal p);
+      nominal = k .backed .nominal;
       covered = k .sound .covered;
       limited = λ p. limits h k p (cases-lt (p .participant) (s .participants));
       bounded = k .sound .bounded;
-      balance = λ x. omega (arith, k .backed .balance x);
+      balance = k .backed .balance;
       conserved = k .sound .conserved;
     }
   where

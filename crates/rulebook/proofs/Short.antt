@@ -12,75 +12,57 @@ use Rattle.std.specs.declared.result.Result.the-variants.{Ok, Err}
 use Rattle.std.specs.shelf.Lists.{All}
 use Rattle.std.proofs.shelf.Lists.{append-nil, append-assoc}
 use Rattle.std.proofs.shelf.Elements.{all-append, all-weaker}
-use Rattle.std.proofs.shelf.Tests.{cond-both, cond-false, and-parts, both-ways, or-left, leb-true, leb-false, eqb-true, ne-eqb}
+use Rattle.std.proofs.shelf.Tests.{cond-both, cond-false, and-parts, both-ways, or-left, eqb-true, ne-eqb}
 use Rattle.refusals.specs.declared.Refusal.{Refusal}
 use Rattle.refusals.specs.declared.Refusal.the-variants.{WrongState, NominalShort, MoneyShort}
 use Rattle.calendar.specs.declared.Date.{Date}
-use Rattle.rulebook.specs.declared.Order.{Order}
 use Rattle.rulebook.specs.declared.Fate.{Fate}
 use Rattle.rulebook.specs.declared.Fate.the-variants as fate
 use Rattle.rulebook.specs.declared.Call.{Call}
 use Rattle.rulebook.specs.declared.Call.the-variants as call
-use Rattle.rulebook.specs.declared.Answer.the-variants as answer
 use Rattle.rulebook.specs.States.{on-a-day, on-no-day, Standing}
 use Rattle.rulebook.specs.Words.{Leg, first, return, Movement, Amounts, afters, Blocking, Instruction, turned, alike, Setting, Start, free}
 use Rattle.rulebook.specs.Checks.{affords, is-on-a-day}
-use Rattle.rulebook.specs.Rounds.{giver, leg-payment, leg, is-day, Try, idle, waits, settles, try, settled-one, tried, try-moves, rounds, moved-to, is-leg-refused, ended, ended-all}
-use Rattle.rulebook.specs.Rules.{Outcome, does, ruled, legs-done, rounded as round-of, closing-list, shuts, close-work}
+use Rattle.rulebook.specs.Rounds.{giver, leg-payment, leg, is-day, Try, idle, waits, settles, try, settled-one, tried, try-moves, rounds, is-leg-refused, ended, ended-all}
+use Rattle.rulebook.specs.Rules.{close-on-a-day, Outcome, ruled, rounded as round-of, closing-list, close-work, book-by, moves-by}
 use Rattle.rulebook.specs.Journal.{Journal, reads, setting-of, Past, outcome, history}
-use Rattle.rulebook.specs.Laws.{Sensible, was-matched, leg-date, leg-serial, last-leg, Short, Tried-last, Refused-short}
-use Rattle.rulebook.proofs.Covers.{Shown, shown-more, shown-reads}
-use Rattle.rulebook.proofs.Roll.{bares, Climbs}
-use Rattle.rulebook.proofs.Fits.{Fits, Fit, fit-more}
-use Rattle.rulebook.proofs.Settling.{Ready, try-both, later, Known, leg-covered, ready-date}
-use Rattle.rulebook.proofs.Course.{past-by, Kept, kept}
+use Rattle.rulebook.specs.Laws.{Sensible, was-matched, leg-serial, last-leg, Short, Tried-last, Refused-short}
+use Rattle.rulebook.proofs.Covered.{leg-covered}
+use Rattle.rulebook.proofs.Agreement.{Shown, shown-more, shown-reads, backed}
+use Rattle.rulebook.proofs.Ways.{Ready, try-both, ended-both}
+use Rattle.rulebook.proofs.Roll.{serials}
+use Rattle.rulebook.proofs.Pairing.{Between}
+use Rattle.rulebook.proofs.Partners.{kin}
+use Rattle.rulebook.proofs.Punctual.{Well, due-day}
+use Rattle.rulebook.proofs.Endings.{well-holds}
+
+-- the past after an outcome, if nothing leaves the list
+abbrev past-by : Past → Outcome → Past
+past-by h o = record { book = book-by (h .book) o; journal = h .journal ++ moves-by o; departed = h .departed }
 
 -- closing refused the leg of one that was matched
 abbrev is-short : Instruction → Bool
 is-short i = is-leg-refused (i .fate) && was-matched i
-
--- while the register is open on a day, none is refused
-none-refused : (days : List ℕ) (sd : Standing) (j : Journal) (n : ℕ) (o : Order) (f : Fate)
-    → sd .state ≡ on-a-day → Fits days sd j n o f → is-leg-refused f ≡ true → ⊥
-none-refused days sd j n o fate.Kept on h e = both-ways false refl e
-none-refused days sd j n o fate.Unmatched on h e = both-ways false refl e
-none-refused days sd j n o fate.Matched on h e = both-ways false refl e
-none-refused days sd j n o (fate.Joined m) on h e = both-ways false refl e
-none-refused days sd j n o fate.Settled on h e = both-ways false refl e
-none-refused days sd j n o fate.RepoOut on h e = both-ways false refl e
-none-refused days sd j n o fate.RepoBack on h e = both-ways false refl e
-none-refused days sd j n o fate.Refused on h e = omega arith
-none-refused days sd j n o fate.ReturnRefused on h e = omega arith
-none-refused days sd j n o fate.Cancelled on h e = both-ways false refl e
 
 -- what was not tried was not short
 untried : (d : ℕ) (i : Instruction) → (is-leg-refused (i .fate) ≡ true → ⊥)
     → alike (i .fate) fate.Matched ≡ false → alike (i .fate) fate.RepoOut && is-day d (i .order .«return_date») ≡ false
     → is-short (ended d i) ≡ true → ⊥
 untried d i n m o =
-    cond-both
-    (alike (i .fate) fate.Unmatched)
-    _
-    _
-    (λ y. is-short y ≡ true → ⊥)
+    ended-both d i (λ y. is-short y ≡ true → ⊥)
     (λ _ e. both-ways false refl e)
-    (λ _. cond-both
-    (alike (i .fate) fate.Matched)
-    _
-    _
-    (λ y. is-short y ≡ true → ⊥)
     (λ t. absurd (both-ways _ m t))
-    (λ _. cond-both
-    (alike (i .fate) fate.RepoOut && is-day d (i .order .«return_date»))
-    _
-    _
-    (λ y. is-short y ≡ true → ⊥)
     (λ t. absurd (both-ways _ o t))
-    (λ _ e. n (and-parts (is-leg-refused (i .fate)) _ e .0))))
+    (λ _ _ _ e. n (and-parts (is-leg-refused (i .fate)) _ e .0))
 
-not-later : (n : ℕ) (r : Option Date) → later n r → is-day n r ≡ true → ⊥
-not-later n None l e = both-ways false refl e
-not-later n (Some r) l e = omega (arith, eqb-true (r .number) n e)
+-- a first leg that is due has no return that day
+not-back : (days : List ℕ) (sd : Standing) (i : Instruction) → Well days sd i → i .fate ≡ fate.Matched
+    → is-day (sd .day) (i .order .«return_date») ≡ true → ⊥
+not-back days sd i w m = go (i .order .«return_date») refl
+  where
+    go : (r : Option Date) → i .order .«return_date» ≡ r → is-day (sd .day) r ≡ true → ⊥
+    go None q e = both-ways false refl e
+    go (Some r) q e = omega (arith, eqb-true (r .number) (sd .day) e, w .fit .return-date r q .1, due-day days sd i w m)
 
 -- what settled was not short
 settled-not : (d : ℕ) (i : Instruction) (e : Leg) (r : Option Date) → (e ≡ first → is-day d (i .order .«return_date») ≡ true → ⊥)
@@ -123,7 +105,7 @@ record Last (s : Start) (bs : List Blocking) (low : ℕ) (j : Journal) (vs : Lis
   short : Short s (reads (s .funds) (j ++ before)) bs i
 
 -- the legs that a round settles have serials of its list
-rounds-above : (st : Setting) (d : ℕ) (bs : List Blocking) (low : ℕ) (is : List Instruction) (high : ℕ) (a : Amounts) → Climbs low (bares is) high
+rounds-above : (st : Setting) (d : ℕ) (bs : List Blocking) (low : ℕ) (is : List Instruction) (high : ℕ) (a : Amounts) → Between low high (serials is)
     → All (λ v. low < leg-serial v) (rounds st d bs is a .1)
 rounds-above st d bs low [] high a c = tt
 rounds-above st d bs low (i ∷ is) high a c =
@@ -184,9 +166,9 @@ module _ (s : Start) (sd : Standing) (on : sd .state ≡ on-a-day) (bs : List Bl
       ys
       h
 
-  module _ (i : Instruction) (is : List Instruction) (low high : ℕ) (j : Journal) (a : Amounts) (c : Climbs low (bares (i ∷ is)) high) (h : Shown (s .funds) a j)
-      (w : All (Fit (s .days) sd j) (i ∷ is)) (k : Known (setting-of s) (i .order))
-      (ih : (j : Journal) (a : Amounts) → Shown (s .funds) a j → All (Fit (s .days) sd j) is
+  module _ (i : Instruction) (is : List Instruction) (low high : ℕ) (j : Journal) (a : Amounts) (c : Between low high (serials (i ∷ is))) (h : Shown (s .funds) a j)
+      (w : Well (s .days) sd i)
+      (ih : (j : Journal) (a : Amounts) → Shown (s .funds) a j
       → All (Ends (i .serial) j (rounds (setting-of s) (sd .day) bs is a .1)) (ended-all (sd .day) (rounds (setting-of s) (sd .day) bs is a .0))) where
     abbrev moved : Try → List Movement
     moved t = try-moves (setting-of s) (sd .day) i t
@@ -195,8 +177,7 @@ module _ (s : Start) (sd : Standing) (on : sd .state ≡ on-a-day) (bs : List Bl
         → All (Ends low j (m ++ rounds (setting-of s) (sd .day) bs is (afters m a) .1)) (ended-all (sd .day) (rounds (setting-of s) (sd .day) bs is (afters m a) .0))
     others m q g =
         behind low (i .serial) j m _ _ (c .0) q
-        (ih (j ++ m) (afters m a) g
-        (all-weaker (Fit (s .days) sd j) (Fit (s .days) sd (j ++ m)) (λ x. fit-more (s .days) sd j m (x .serial) (x .order) (x .fate)) is (w .1)))
+        (ih (j ++ m) (afters m a) g)
 
     still : All (Ends low j (rounds (setting-of s) (sd .day) bs is a .1)) (ended-all (sd .day) (rounds (setting-of s) (sd .day) bs is a .0))
     still = others [] tt (subst (λ (l : Journal). Shown (s .funds) a l) (sym (append-nil j)) h)
@@ -217,47 +198,38 @@ module _ (s : Start) (sd : Standing) (on : sd .state ≡ on-a-day) (bs : List Bl
         (λ t. All
         (Ends low j (moved t ++ rounds (setting-of s) (sd .day) bs is (afters (moved t) a) .1))
         (ended (sd .day) (tried i t) ∷ ended-all (sd .day) (rounds (setting-of s) (sd .day) bs is (afters (moved t) a) .0)))
-        (λ m o. (λ q. absurd (untried (sd .day) i (none-refused (s .days) sd j (i .serial) (i .order) (i .fate) on (w .0)) m o q), still))
+        (λ m o. (λ q. absurd (untried (sd .day) i (λ z. omega (arith, on, w .refused z)) m o q), still))
         (λ e r n. (
           λ _. refused-now e NominalShort r
-              (inl (refl, subst (λ (l : Leg). free a bs (giver (i .order) l) < i .order .nominal) (sym (last-refused e)) (leb-false (i .order .nominal) (free a bs (giver (i .order) e)) n))),
+              (inl (refl, subst (λ (l : Leg). free a bs (giver (i .order) l) < i .order .nominal) (sym (last-refused e)) n)),
           still,
         ))
         (λ e r n p. (
           λ _. refused-now e MoneyShort r
               (inr (
                 refl,
-                subst (λ (l : Leg). i .order .nominal ≤ free a bs (giver (i .order) l)) (sym (last-refused e)) (leb-true (i .order .nominal) (free a bs (giver (i .order) e)) n),
+                subst (λ (l : Leg). i .order .nominal ≤ free a bs (giver (i .order) l)) (sym (last-refused e)) n,
                 subst (λ (l : Leg). affords a (leg-payment (setting-of s) (i .order) l) ≡ false) (sym (last-refused e)) p,
               )),
           still,
         ))
         (λ e r n p. (
           λ q. absurd (settled-not (sd .day) i e (i .order .«return_date»)
-              (λ z t. not-later (sd .day) (i .order .«return_date»)
-              (subst (λ (x : ℕ). later x (i .order .«return_date»)) (ap (leg-date (i .order)) (sym z) ∙ ready-date (s .days) sd j i e (w .0) r) (k .return))
-              t)
+              (λ z. not-back (s .days) sd i w (subst (λ (l : Leg). Ready (sd .day) i l) z r))
               q),
           others (moved (settles e)) (refl, tt)
-              (shown-more (s .funds) a j (leg (setting-of s) (sd .day) i e) h (leg-covered (setting-of s) (sd .day) bs a i e n p)),
+              (shown-more (s .funds) a j bs (leg (setting-of s) (sd .day) i e) h (leg-covered (setting-of s) (sd .day) bs i a e n p)),
         ))
 
-  last : (is : List Instruction) (low high : ℕ) (j : Journal) (a : Amounts) → Climbs low (bares is) high → Shown (s .funds) a j → All (Fit (s .days) sd j) is
-      → All (λ x. Known (setting-of s) (x .order)) (bares is)
+  last : (is : List Instruction) (low high : ℕ) (j : Journal) (a : Amounts) → Between low high (serials is) → Shown (s .funds) a j → All (Well (s .days) sd) is
       → All (Ends low j (rounds (setting-of s) (sd .day) bs is a .1)) (ended-all (sd .day) (rounds (setting-of s) (sd .day) bs is a .0))
-  last [] low high j a c h w k = tt
-  last (i ∷ is) low high j a c h w k =
-      one-last i is low high j a c h w (k .0) (λ j′ a′ h′ w′. last is (i .serial) high j′ a′ (c .1) h′ w′ (k .1))
+  last [] low high j a c h w = tt
+  last (i ∷ is) low high j a c h w =
+      one-last i is low high j a c h (w .0) (λ j′ a′ h′. last is (i .serial) high j′ a′ (c .1) h′ (w .1))
 
 -- closing on a day
 closes : (s : Start) (h : Past) → is-on-a-day (h .book) ≡ true
-    → outcome s h call.Closing
-    ≡ does
-    (answer.Closed
-    (legs-done (setting-of s) (reads (s .funds) (h .journal)) (h .book))
-    (moved-to is-leg-refused (round-of (setting-of s) (reads (s .funds) (h .journal)) (h .book) .0) (closing-list (setting-of s) (reads (s .funds) (h .journal)) (h .book))))
-    (shuts (h .book) (closing-list (setting-of s) (reads (s .funds) (h .journal)) (h .book)))
-    (round-of (setting-of s) (reads (s .funds) (h .journal)) (h .book) .1)
+    → outcome s h call.Closing ≡ close-on-a-day (setting-of s) (reads (s .funds) (h .journal)) (h .book)
 closes s h e =
     ap
     (λ (b : Bool). ruled (cond b (Ok tt) (Err WrongState)) (close-work (setting-of s) (reads (s .funds) (h .journal)) (h .book)))
@@ -284,13 +256,10 @@ refused-short-holds s w cs e =
     })
     (closing-list (setting-of s) (reads (s .funds) (h .journal)) (h .book))
     (last s (h .book .standing) (eqb-true (h .book .standing .state) on-a-day e) (h .book .blockings .standing)
-    (h .book .instructions .standing) 0 (h .book .instructions .next) (h .journal) (reads (s .funds) (h .journal)) (k .climbs) (k .shown) (k .fit) (k .known)))
+    (h .book .instructions .standing) 0 (h .book .instructions .next) (h .journal) (reads (s .funds) (h .journal)) (kin s cs .rising) (backed s cs) (well-holds s w cs)))
   where
     h : Past
     h = history s cs
-
-    k : Kept s (history s cs)
-    k = kept s w cs
 
     vs : List Movement
     vs = round-of (setting-of s) (reads (s .funds) (history s cs .journal)) (history s cs .book) .1

@@ -1,27 +1,29 @@
 -- Which instructions belong together: what is counted, and what a change of fates leaves of it.
-use mathlib.Core.Path.{_≡_, refl, sym, subst, _∙_}
+use mathlib.Core.Path.{_≡_, refl, ap, sym, subst, _∙_}
 use mathlib.Core.List.{List, [], _∷_, map}
 use mathlib.Core.Bool.{Bool, true, false, cond, not, _&&_, _||_}
 use Prim.Native.Nat.{ℕ, _≤_, _<_}
 use native.Mathlib.Omega.{arith}
-use lib.Dec.{eqb, leb}
+use lib.Dec.{eqb}
 use Rattle.std.specs.declared.option.Option.{Option}
 use Rattle.std.specs.declared.option.Option.the-variants.{Some, None}
 use Rattle.std.specs.shelf.Lists.{All, Each}
-use Rattle.std.proofs.shelf.Tests.{cond-both, both-ways, and-parts, or-left, or-right}
+use Rattle.std.proofs.shelf.Tests.{both-ways}
 use Rattle.refusals.specs.declared.Refusal.{Refusal}
-use Rattle.refusals.specs.declared.Refusal.the-variants.{NominalShort, MoneyShort, NoPartner}
+use Rattle.refusals.specs.declared.Refusal.the-variants.{NoPartner}
 use Rattle.refusals.specs.Table.{number}
 use Rattle.calendar.specs.declared.Date.{Date}
 use Rattle.rulebook.specs.declared.Order.{Order}
 use Rattle.rulebook.specs.declared.Fate.{Fate}
 use Rattle.rulebook.specs.declared.Fate.the-variants as fate
 use Rattle.rulebook.specs.Answers.{cause-number}
-use Rattle.rulebook.specs.Words.{one-if, total, Leg, first, return, Amounts, afters, Blocking, Instruction, turned, alike, Setting, free}
-use Rattle.rulebook.specs.Checks.{affords, is-inside, has-serial, may-cancel}
+use Rattle.rulebook.specs.Words.{one-if, total, Leg, first, return, Amounts, afters, Blocking, Instruction, turned, alike, Setting}
+use Rattle.rulebook.specs.Checks.{is-inside, has-serial, may-cancel}
 use Rattle.rulebook.specs.Matching.{joins, same-order, counter, cancelled-in}
-use Rattle.rulebook.specs.Rounds.{giver, leg-payment, is-day, due, Try, idle, waits, settles, try-leg, try, settled-one, tried, try-moves, rounds, ended, ended-all}
+use Rattle.rulebook.specs.Rounds.{due, Try, idle, waits, settles, try, settled-one, tried, try-moves, rounds, ended, ended-all}
 use Rattle.rulebook.specs.Laws.{was-matched}
+use Rattle.rulebook.proofs.Ways.{Ready, try-both, ended-both, cancel-both}
+use Rattle.rulebook.proofs.Roll.{bares}
 
 -- a measure that reads only what never changes
 abbrev pub Fixed : Type 0
@@ -46,9 +48,6 @@ leads i = was-matched i && not (is-inside (i .order))
 
 abbrev pub leading : ℕ → Instruction → ℕ
 leading n i = one-if (has-serial n i && leads i)
-
-abbrev pub serials : List Instruction → List ℕ
-serials is = map (λ i. i .serial) is
 
 -- a matched one never lacked a partner
 abbrev pub Calm : Instruction → Type 0
@@ -93,46 +92,29 @@ turn-on i f c h js m k =
     }
 
 -- a try touches only a leg that is due, and it never waits for want of a partner
-abbrev Proper : Instruction → Try → Type 0
-Proper i idle = Unit {0}
-Proper i (waits c) = (in-turn (i .fate) ≡ true) × (eqb (number c) 21 ≡ false)
-Proper i (settles e) = in-turn (i .fate) ≡ true
+abbrev Touches : Instruction → Try → Type 0
+Touches i idle = Unit {0}
+Touches i (waits c) = (in-turn (i .fate) ≡ true) × (eqb (number c) 21 ≡ false)
+Touches i (settles e) = in-turn (i .fate) ≡ true
 
-proper-leg : (st : Setting) (a : Amounts) (bs : List Blocking) (i : Instruction) (e : Leg) → in-turn (i .fate) ≡ true
-    → Proper i (try-leg st a bs (i .order) (Some e))
-proper-leg st a bs i e h =
-    cond-both
-    (leb (i .order .nominal) (free a bs (giver (i .order) e)))
-    (cond (affords a (leg-payment st (i .order) e)) (settles e) (waits MoneyShort))
-    (waits NominalShort)
-    (Proper i)
-    (λ _. cond-both (affords a (leg-payment st (i .order) e)) (settles e) (waits MoneyShort) (Proper i) (λ _. h) (λ _. (h, refl)))
-    (λ _. (h, refl))
+ready-in-turn : (d : ℕ) (i : Instruction) (e : Leg) → Ready d i e → in-turn (i .fate) ≡ true
+ready-in-turn d i first r = ap in-turn r
+ready-in-turn d i return r = ap in-turn (r .0)
 
-proper : (st : Setting) (d : ℕ) (bs : List Blocking) (a : Amounts) (i : Instruction) → Proper i (try st d bs a i)
-proper st d bs a i =
-    cond-both
-    (alike (i .fate) fate.Matched)
-    (Some first)
-    (cond (alike (i .fate) fate.RepoOut && is-day d (i .order .«return_date»)) (Some return) None)
-    (λ (e : Option Leg). Proper i (try-leg st a bs (i .order) e))
-    (λ h. proper-leg st a bs i first (or-left (alike (i .fate) fate.Matched) (alike (i .fate) fate.RepoOut) h))
-    (λ _. cond-both
-    (alike (i .fate) fate.RepoOut && is-day d (i .order .«return_date»))
-    (Some return)
-    None
-    (λ (e : Option Leg). Proper i (try-leg st a bs (i .order) e))
-    (λ h. proper-leg st a bs i return
-    (or-right (alike (i .fate) fate.Matched) (alike (i .fate) fate.RepoOut)
-    (and-parts (alike (i .fate) fate.RepoOut) (is-day d (i .order .«return_date»)) h .0)))
-    (λ _. tt))
+touches : (st : Setting) (d : ℕ) (bs : List Blocking) (a : Amounts) (i : Instruction) → Touches i (try st d bs a i)
+touches st d bs a i =
+    try-both st d bs a i (Touches i)
+    (λ _ _. tt)
+    (λ e r _. (ready-in-turn d i e r, refl))
+    (λ e r _ _. (ready-in-turn d i e r, refl))
+    (λ e r _ _. ready-in-turn d i e r)
 
 turn-settled : (i : Instruction) (e : Leg) (d : Option Date) → in-turn (i .fate) ≡ true → Turn i (settled-one i e d)
 turn-settled i first None h = turn-on i fate.Settled (i .cause) h (λ n. refl) refl (λ _ e. grind arith)
 turn-settled i first (Some d) h = turn-on i fate.RepoOut None h (λ n. refl) refl (λ _ e. grind arith)
 turn-settled i return d h = turn-on i fate.RepoBack (i .cause) h (λ n. refl) refl (λ _ e. grind arith)
 
-turn-tried : (i : Instruction) (t : Try) → Proper i t → Turn i (tried i t)
+turn-tried : (i : Instruction) (t : Try) → Touches i t → Turn i (tried i t)
 turn-tried i idle h = turn-none i
 turn-tried i (waits c) h =
     turn-on i (i .fate) (Some c) (h .0) (λ n. in-turn-joins n (i .fate) (h .0)) (in-turn-matched (turned i (i .fate) (Some c)) (h .0)) (λ _ _. h .1)
@@ -143,7 +125,7 @@ pub round-turns : (st : Setting) (d : ℕ) (bs : List Blocking) (is : List Instr
     → Each Turn is (rounds st d bs is a .0)
 round-turns st d bs [] a = tt
 round-turns st d bs (i ∷ is) a = (
-  turn-tried i (try st d bs a i) (proper st d bs a i),
+  turn-tried i (try st d bs a i) (touches st d bs a i),
   round-turns st d bs is (afters (try-moves st d i (try st d bs a i)) a),
 )
 
@@ -159,45 +141,40 @@ turn-refused i f c js m k =
 
 turn-ended : (d : ℕ) (i : Instruction) → Turn i (ended d i)
 turn-ended d i =
-    cond-both
-    (alike (i .fate) fate.Unmatched)
-    (turned i fate.Refused (Some NoPartner))
-    (cond
-    (alike (i .fate) fate.Matched)
-    (turned i fate.Refused (i .cause))
-    (cond (alike (i .fate) fate.RepoOut && is-day d (i .order .«return_date»)) (turned i fate.ReturnRefused (i .cause)) i))
-    (Turn i)
+    ended-both d i (Turn i)
     (λ e. turn-refused i fate.Refused (Some NoPartner) (λ n. grind arith) (λ _. grind arith) refl)
-    (λ _. cond-both
-    (alike (i .fate) fate.Matched)
-    (turned i fate.Refused (i .cause))
-    (cond (alike (i .fate) fate.RepoOut && is-day d (i .order .«return_date»)) (turned i fate.ReturnRefused (i .cause)) i)
-    (Turn i)
     (λ e. turn-refused i fate.Refused (i .cause) (λ n. grind arith) (λ k. let w = k e in grind arith) refl)
-    (λ _. cond-both
-    (alike (i .fate) fate.RepoOut && is-day d (i .order .«return_date»))
-    (turned i fate.ReturnRefused (i .cause))
-    i
-    (Turn i)
     (λ e. turn-refused i fate.ReturnRefused (i .cause) (λ n. grind arith) (λ _. grind arith) refl)
-    (λ _. turn-none i)))
+    (λ _ _ _. turn-none i)
 
 pub end-turns : (d : ℕ) (is : List Instruction) → Each Turn is (ended-all d is)
 end-turns d is = map-turns (ended d) (turn-ended d) is
 
 turn-cancelled : (p n : ℕ) (i : Instruction) → Turn i (cond (may-cancel p n i) (turned i fate.Cancelled (i .cause)) i)
 turn-cancelled p n i =
-    cond-both
-    (may-cancel p n i)
-    (turned i fate.Cancelled (i .cause))
-    i
-    (Turn i)
-    (λ e. let w : (alike (i .fate) fate.Kept || alike (i .fate) fate.Unmatched) ≡ true = and-parts _ (alike (i .fate) fate.Kept || alike (i .fate) fate.Unmatched) e .1 in
-    turn-refused i fate.Cancelled (i .cause) (λ m. grind arith) (λ _. grind arith) refl)
-    (λ _. turn-none i)
+    cancel-both p n i (Turn i)
+    (λ w. turn-refused i fate.Cancelled (i .cause) (λ m. grind arith) (λ _. grind arith) refl)
+    (turn-none i)
 
 pub cancel-turns : (p n : ℕ) (is : List Instruction) → Each Turn is (cancelled-in p n is)
 cancel-turns p n is = map-turns (λ i. cond (may-cancel p n i) (turned i fate.Cancelled (i .cause)) i) (turn-cancelled p n) is
+
+-- a turn leaves the roll
+pub turned-bare : (is js : List Instruction) → Each Turn is js → bares js ≡ bares is
+turned-bare [] [] t = refl
+turned-bare [] (j ∷ js) t = absurd t
+turned-bare (i ∷ is) [] t = absurd t
+turned-bare (i ∷ is) (j ∷ js) t =
+    λ k. record { serial = t .0 .serial k; order = t .0 .order k; fate = fate.Kept; cause = None } ∷ turned-bare is js (t .1) k
+
+pub rounds-bare : (st : Setting) (d : ℕ) (bs : List Blocking) (is : List Instruction) (a : Amounts) → bares (rounds st d bs is a .0) ≡ bares is
+rounds-bare st d bs is a = turned-bare is (rounds st d bs is a .0) (round-turns st d bs is a)
+
+pub ended-bare : (d : ℕ) (is : List Instruction) → bares (ended-all d is) ≡ bares is
+ended-bare d is = turned-bare is (ended-all d is) (end-turns d is)
+
+pub cancelled-bare : (p n : ℕ) (is : List Instruction) → bares (cancelled-in p n is) ≡ bares is
+cancelled-bare p n is = turned-bare is (cancelled-in p n is) (cancel-turns p n is)
 
 -- a sum that reads only what a turn leaves stays, and so does what holds of each
 pub turned-total : (f : Instruction → ℕ) → ((i j : Instruction) → Calm i → Turn i j → f j ≡ f i)
@@ -213,15 +190,6 @@ turned-all P Q h [] [] k t a = tt
 turned-all P Q h [] (j ∷ js) k t a = absurd t
 turned-all P Q h (i ∷ is) [] k t a = absurd t
 turned-all P Q h (i ∷ is) (j ∷ js) k t a = (h i j (k .0) (t .0) (a .0), turned-all P Q h is js (k .1) (t .1) (a .1))
-
-pub turned-serials : (is js : List Instruction) → Each Turn is js → serials js ≡ serials is
-turned-serials [] [] t = refl
-turned-serials [] (j ∷ js) t = absurd t
-turned-serials (i ∷ is) [] t = absurd t
-turned-serials (i ∷ is) (j ∷ js) t = λ k. t .0 .serial k ∷ turned-serials is js (t .1) k
-
-pub turned-fixed : (g : Fixed) (is js : List Instruction) → All Calm is → Each Turn is js → total (weigh g) js ≡ total (weigh g) is
-turned-fixed g = turned-total (weigh g) (λ i j _ t k. g (t .serial k) (t .order k))
 
 pub turned-joined : (n : ℕ) (is js : List Instruction) → All Calm is → Each Turn is js → total (joined-to n) js ≡ total (joined-to n) is
 turned-joined n = turned-total (joined-to n) (λ i j _ t k. one-if (t .joined n k))

@@ -1,18 +1,17 @@
 -- A week by computation: kept, matched, waiting, refused, cancelled, a return refused, redemptions; and its laws counted out.
 use mathlib.Core.Path.{_≡_, refl}
 use mathlib.Core.List.{List, [], _∷_, _++_, map}
-use mathlib.Core.Bool.{Bool, not, _&&_}
-use Prim.Native.Nat.{ℕ}
+use mathlib.Core.Bool.{not, _&&_}
 use Rattle.std.specs.declared.option.Option.the-variants.{Some, None}
 use Rattle.refusals.specs.declared.Refusal.the-variants.{WrongState, NominalShort, MoneyShort, NoPartner, NotFound}
-use Rattle.rulebook.specs.declared.Side.the-variants.{Own, Customer}
+use Rattle.rulebook.specs.declared.Side.the-variants.{Own}
 use Rattle.rulebook.specs.declared.Sender.the-variants.{Transferor, Acquirer}
 use Rattle.rulebook.specs.declared.Fate.the-variants as fate
 use Rattle.rulebook.specs.declared.Call.{Call}
 use Rattle.rulebook.specs.declared.Call.the-variants.{Opening, Cancelling, Blocking, Releasing, Round, Closing, Redeeming, AskingStatus}
 use Rattle.rulebook.specs.declared.Answer.{Answer}
 use Rattle.rulebook.specs.declared.Answer.the-variants.{Opened, Registered, Placed, Instructed, Cancelled, Blocked, Released, RoundMade, Closed, Redeemed, Status, Refused}
-use Rattle.rulebook.specs.Words.{one-if, total, principal, first}
+use Rattle.rulebook.specs.Words.{one-if, total, principal}
 use Rattle.rulebook.specs.Checks.{is-inside}
 use Rattle.rulebook.specs.Matching.{joins}
 use Rattle.rulebook.specs.Journal.{history, answers, accepted, setting-of}

@@ -11,14 +11,10 @@ use Rattle.rulebook.specs.Rules.{Outcome, answer-by}
 use Rattle.rulebook.specs.Journal.{Past, new-past, outcome, step, history-from, answers-from, history, answers, reply, View, ruling, view-by, next, first-view, told}
 use Rattle.rulebook.specs.Laws.{Sensible, Journal-lawful}
 use Rattle.rulebook.specs.Works.{Tells, Continues, Works, Continues-all, Worked}
-use Rattle.rulebook.proofs.Agreement.{Backed, none-backed, shown, stepped, backed-from, first-shown}
+use Rattle.rulebook.proofs.Agreement.{backed, shown, stepped, first-shown}
+use Rattle.rulebook.proofs.Steps.{history-more}
 
 -- one more call behind a list, and the front of a list
-pub history-more : (s : Start) (h : Past) (cs : List Call) (c : Call)
-    → history-from s h (cs ++ c ∷ []) ≡ step s (history-from s h cs) c
-history-more s h [] c = refl
-history-more s h (d ∷ cs) c = history-more s (step s h d) cs c
-
 pub answers-more : (s : Start) (h : Past) (cs : List Call) (c : Call)
     → answers-from s h (cs ++ c ∷ []) ≡ answers-from s h cs ++ answer-by (outcome s (history-from s h cs) c) ∷ []
 answers-more s h [] c = refl
@@ -29,9 +25,6 @@ pub answers-take : (s : Start) (h : Past) (n : ℕ) (cs : List Call)
 answers-take s h zero cs = refl
 answers-take s h (suc n) [] = refl
 answers-take s h (suc n) (d ∷ cs) = ap (λ ws. answer-by (outcome s h d) ∷ ws) (answers-take s (step s h d) n cs)
-
-pub backed : (s : Start) (cs : List Call) → Backed (s .funds) (history s cs .journal)
-backed s cs = backed-from s new-past cs (none-backed (s .funds))
 
 -- one more call on what the journal of a list of calls shows
 pub told-more : (s : Start) (cs : List Call) (c : Call)

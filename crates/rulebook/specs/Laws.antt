@@ -23,8 +23,8 @@ use Rattle.rulebook.specs.declared.Answer.{Answer}
 use Rattle.rulebook.specs.declared.Answer.the-variants as answer
 use Rattle.rulebook.specs.States.{shut, on-a-day, on-no-day, Standing}
 use Rattle.rulebook.specs.Answers.{cause-number}
-use Rattle.rulebook.specs.Words.{one-if, total, sum-below, Place, place, same, Payment, Leg, first, return, same-leg, Movement, placed, settled, redeemed, Amounts, Blocking, Instruction, alike, principal, Setting, Book, Start, blocked, free, priced, outstanding}
-use Rattle.rulebook.specs.Checks.{Check, date-of, knows, affords, is-inside, is-on-a-day, has-serial}
+use Rattle.rulebook.specs.Words.{one-if, total, sum-below, Place, place, same, Payment, Leg, first, return, same-leg, Movement, placed, settled, redeemed, Amounts, Blocking, Instruction, alike, principal, Numbered, Setting, Book, Start, blocked, free, payment, priced, outstanding}
+use Rattle.rulebook.specs.Checks.{Check, is-registered, date-of, matures, knows, affords, is-inside, is-on-a-day, has-serial}
 use Rattle.rulebook.specs.Matching.{joins, same-option, same-order, counter}
 use Rattle.rulebook.specs.Rounds.{giver, leg-payment, is-leg-done, is-leg-refused}
 use Rattle.rulebook.specs.Rules.{checks, opening-day}
@@ -276,3 +276,53 @@ pub record Rules-lawful (s : Start) (cs : List Call) : Type 0 where
 
 abbrev pub Rules-hold : Type 0
 Rules-hold = (s : Start) → Sensible s → (cs : List Call) → Rules-lawful s cs
+
+-- a question changes nothing
+pub record Questions-keep : Type 0 where
+  pub status : (v : View) (n : ℕ) → next v (call.AskingStatus n) .0 ≡ v
+  pub holding : (v : View) (p i : ℕ) → next v (call.AskingHolding p i) .0 ≡ v
+
+-- only a call that the state does not take is refused for the state
+abbrev pub State-takes : Type 0
+State-takes =
+    (v : View) (c : Call) (field : ℕ) → next v c .1 ≡ answer.Refused WrongState field
+    → suits (v .book .standing .state) c ≡ false
+
+-- at most 256 instructions and 64 blockings stand, and the numbers given go up to 999,999
+pub record Limited (is : Numbered Instruction) (bs : Numbered Blocking) : Type 0 where
+  pub instructions : length (is .standing) ≤ 256
+  pub blockings : length (bs .standing) ≤ 64
+  pub serials : is .next ≤ 999999 + 1
+  pub numbers : bs .next ≤ 999999 + 1
+
+abbrev pub Places-limited : Type 0
+Places-limited = (s : Start) (cs : List Call) → Limited (history s cs .book .instructions) (history s cs .book .blockings)
+
+-- what is blocked at a place falls only by a release of that participant
+abbrev pub Blockings-stay : Type 0
+Blockings-stay =
+    (v : View) (c : Call) (p : Place)
+    → (blocked (v .book .blockings .standing) p ≤ blocked (next v c .0 .book .blockings .standing) p)
+    ⊎ ((n : ℕ) × (c ≡ call.Releasing (p .participant) n))
+
+-- orders that are compared as the same are equal in every field
+abbrev pub Same-orders-equal : Type 0
+Same-orders-equal = (o q : Order) → same-order o q ≡ true → o ≡ q
+
+-- a placement is paid to the ministry, and a redemption by it, as much as own and customer nominal together
+abbrev pub Ministry-side : Setting → Movement → Type 0
+Ministry-side st (placed d p n y) = (price : ℕ) × (y ≡ payment st (p .participant) 0 price)
+Ministry-side st (settled d n e g r m y) = Unit {0}
+Ministry-side st (redeemed d p i u c y) = y ≡ payment st 0 p (u + c)
+
+abbrev pub Ministry-paid : Type 0
+Ministry-paid = (s : Start) (cs : List Call) → All (Ministry-side (setting-of s)) (history s cs .journal)
+
+-- placements and legs of an issue lie before its maturity, redemptions at it or later
+abbrev pub Timely : Book → Movement → Type 0
+Timely k (placed d p n y) = d < matures k (p .issue)
+Timely k (settled d n e g r m y) = d < matures k (g .issue)
+Timely k (redeemed d p i u c y) = (is-registered k i ≡ true) × (matures k i ≤ d)
+
+abbrev pub Issues-timely : Type 0
+Issues-timely = (s : Start) → Sensible s → (cs : List Call) → All (Timely (history s cs .book)) (history s cs .journal)

@@ -7,5 +7,6 @@ pub mod Rounds
 pub mod Rules
 pub mod Journal
 pub mod Sheet
+pub mod Cases
 pub mod Laws
 pub mod Works

@@ -1,4 +1,4 @@
--- The edge cases of the rules, on one sheet: January 2025, and issue 4 that matures on the 10th.
+-- The edge cases of the rules, on one sheet: the year 2025, and issue 4 that matures on the 10th.
 use mathlib.Core.Path.{_≡_}
 use mathlib.Core.List.{List, [], _∷_, _++_}
 use Prim.Native.Nat.{ℕ, _+_}
@@ -6,6 +6,7 @@ use Rattle.std.specs.declared.option.Option.{Option}
 use Rattle.std.specs.declared.option.Option.the-variants.{Some, None}
 use Rattle.refusals.specs.declared.Refusal.the-variants.{AmountLimits, WrongDate, InstructionShape, NominalShort, MoneyShort, NoPartner}
 use Rattle.calendar.specs.declared.Date.{Date}
+use Rattle.calendar.specs.Masks.{business-days as calendar-days}
 use Rattle.rulebook.specs.declared.Side.{Side}
 use Rattle.rulebook.specs.declared.Side.the-variants.{Own, Customer}
 use Rattle.rulebook.specs.declared.Sender.{Sender}
@@ -22,12 +23,14 @@ use Rattle.rulebook.specs.Journal.{reply}
 abbrev pub january : ℕ → Date
 january d = record { number = 20250100 + d }
 
--- Monday to Friday, but the 1st
+-- the year 2025: Monday to Friday, but 1 January
 abbrev pub business-days : List ℕ
 business-days =
-    20250102 ∷ 20250103 ∷ 20250106 ∷ 20250107 ∷ 20250108 ∷ 20250109 ∷ 20250110 ∷ 20250113 ∷ 20250114 ∷ 20250115 ∷ 20250116
-    ∷ 20250117 ∷ 20250120 ∷ 20250121 ∷ 20250122 ∷ 20250123 ∷ 20250124 ∷ 20250127 ∷ 20250128 ∷ 20250129 ∷ 20250130 ∷ 20250131
-    ∷ []
+    calendar-days
+    2025
+    (0x7cf9f3e6 ∷ 0x0f9f3e7c ∷ 0x4f9f3e7c ∷ 0x39f3e7cf ∷ 0x3e7cf9f3 ∷ 0x27cf9f3e
+    ∷ 0x79f3e7cf ∷ 0x1f3e7cf9 ∷ 0x33e7cf9f ∷ 0x7cf9f3e7 ∷ 0x0f9f3e7c ∷ 0x73e7cf9f
+    ∷ [])
 
 -- three participants with an account each, and these balances
 abbrev pub three : List ℕ → Start

@@ -6,7 +6,7 @@ use lib.ListN.{take}
 use Rattle.rulebook.specs.declared.Call.{Call}
 use Rattle.rulebook.specs.declared.Answer.{Answer}
 use Rattle.rulebook.specs.Words.{Start}
-use Rattle.rulebook.specs.Journal.{View, next, told, answers, reply}
+use Rattle.rulebook.specs.Journal.{View, next, run, first-view, told, answers, reply}
 use Rattle.rulebook.specs.Laws.{Sensible, Lawful}
 
 -- a register shows what the journal of these calls shows, from a start that can be made
@@ -37,3 +37,14 @@ pub record Worked (s : Start) (cs : List Call) (v : View) (ws : List Answer) : T
   pub tells : Tells v s cs
   pub lawful : Lawful s cs
   pub throughout : (n : ℕ) → (take n ws ≡ answers s (take n cs)) × Lawful s (take n cs)
+
+-- a call that obeys the rules works, whatever led to it
+abbrev pub Obeying-works : Type 0
+Obeying-works =
+    (before after : View) (c : Call) (a : Answer) → _≡_ {A = View × Answer} (after, a) (next before c)
+    → Works before after c a
+
+-- every list of calls by the rules on a new register works, at every place of it
+abbrev pub Runs-work : Type 0
+Runs-work =
+    (s : Start) → Sensible s → (cs : List Call) → Worked s cs (run (first-view s) cs .0) (run (first-view s) cs .1)

@@ -1,6 +1,8 @@
 // What holds of the rules, whatever is called: each function stands for the theorem that its contract names.
-ghost use Rattle.rulebook.specs.Laws.{Checks-rise, Refusal-keeps, State-refuses, Turns-granted, Knows-plainly, Journal-agrees, Journal-lawful, Rules-hold};
+ghost use Rattle.rulebook.specs.Laws.{Checks-rise, Refusal-keeps, State-refuses, Turns-granted, Knows-plainly, Journal-agrees, Journal-lawful, Rules-hold, Questions-keep, State-takes, Places-limited, Blockings-stay, Same-orders-equal, Ministry-paid, Issues-timely};
 ghost use Rattle.rulebook.specs.Sheet.{Sheet};
+ghost use Rattle.rulebook.specs.Works.{Obeying-works, Runs-work};
+ghost use Rattle.rulebook.specs.Cases.{More-cases};
 
 // A refused call changes nothing.
 pub fn refusals_keep() -> u8
@@ -45,6 +47,14 @@ pub fn journal_lawful() -> u8
     0
 }
 
+// Whatever a register that obeys the rules is called and in whatever order, its answers are the journal's.
+pub fn calls_work() -> u8
+    ensures one { λ _. ⌜ Obeying-works ⌝ }
+    ensures all { λ _. ⌜ Runs-work ⌝ }
+{
+    0
+}
+
 // The rules' own laws after every list of calls: partners, legs, dates, outstanding nominal, and causes of refusals.
 pub fn rules_hold() -> u8
     ensures { λ _. ⌜ Rules-hold ⌝ }
@@ -59,9 +69,65 @@ pub fn edge_cases_hold() -> u8
     0
 }
 
+// Each call's refusals and limits, and the course of instructions, case by case.
+pub fn more_cases_hold() -> u8
+    ensures { λ _. ⌜ More-cases ⌝ }
+{
+    0
+}
+
 // Every call's checks run in the order of the table.
 pub fn checks_rise() -> u8
     ensures { λ _. ⌜ Checks-rise ⌝ }
+{
+    0
+}
+
+// A question changes nothing.
+pub fn questions_keep() -> u8
+    ensures { λ _. ⌜ Questions-keep ⌝ }
+{
+    0
+}
+
+// A call that the state takes is not refused for it.
+pub fn states_take() -> u8
+    ensures { λ _. ⌜ State-takes ⌝ }
+{
+    0
+}
+
+// After every list of calls at most 256 instructions and 64 blockings stand, and numbers go up to 999,999.
+pub fn places_limited() -> u8
+    ensures { λ _. ⌜ Places-limited ⌝ }
+{
+    0
+}
+
+// A participant's blocked nominal falls only by a release of its own.
+pub fn blockings_stay() -> u8
+    ensures { λ _. ⌜ Blockings-stay ⌝ }
+{
+    0
+}
+
+// Orders compared as the same are equal in every field.
+pub fn same_orders_equal() -> u8
+    ensures { λ _. ⌜ Same-orders-equal ⌝ }
+{
+    0
+}
+
+// Placements are paid to the ministry, redemptions by it.
+pub fn ministry_paid() -> u8
+    ensures { λ _. ⌜ Ministry-paid ⌝ }
+{
+    0
+}
+
+// Placements and legs of an issue lie before its maturity, redemptions at it or later.
+pub fn issues_timely() -> u8
+    ensures { λ _. ⌜ Issues-timely ⌝ }
 {
     0
 }
