@@ -17,7 +17,11 @@ fn run(rt: &LibcRuntime) -> Result<(), AnyError> {
     let _ = rt.stdin().read_to_end(&mut file)?;
     match work_day(rt.alloc(), file.as_slice()) {
         Ok(answers) => print_answers(rt, answers.as_slice()),
-        Err(FileError::TooLong(refusal)) => print_answer(rt, 0, Answer::Refused { refusal, field: 0 }),
+        Err(FileError::TooLong(refusal)) => print_answer(
+            rt,
+            0,
+            Answer::Refused { refusal, field: 0 },
+        ),
         Err(FileError::Memory) => Err("not enough memory".into()),
     }
 }

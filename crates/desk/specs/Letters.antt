@@ -22,8 +22,8 @@ is-among c (x ∷ xs) = eqb c x || is-among c xs
 abbrev pub taken-by : ℕ → List ℕ
 taken-by state =
     cond (eqb state shut) (68 ∷ 83 ∷ 72 ∷ [])
-      (cond (eqb state on-a-day) (78 ∷ 80 ∷ 84 ∷ 88 ∷ 66 ∷ 70 ∷ 82 ∷ 69 ∷ 77 ∷ 83 ∷ 72 ∷ [])
-        (cond (eqb state on-no-day) (69 ∷ 83 ∷ 72 ∷ []) []))
+    (cond (eqb state on-a-day) (78 ∷ 80 ∷ 84 ∷ 88 ∷ 66 ∷ 70 ∷ 82 ∷ 69 ∷ 77 ∷ 83 ∷ 72 ∷ [])
+    (cond (eqb state on-no-day) (69 ∷ 83 ∷ 72 ∷ []) []))
 
 abbrev pub takes : ℕ → ℕ → Bool
 takes letter state = is-among letter (taken-by state)

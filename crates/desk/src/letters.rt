@@ -17,7 +17,8 @@ fn takes(letter: char, state: u8) -> bool
         'D' if state == SHUT => true,
         'S' | 'H' if state == SHUT || state == ON_NO_DAY => true,
         'E' if state == ON_NO_DAY => true,
-        'N' | 'P' | 'T' | 'X' | 'B' | 'F' | 'R' | 'E' | 'M' | 'S' | 'H' if state == ON_A_DAY => true,
+        'N' | 'P' | 'T' | 'X' | 'B' | 'F' | 'R' | 'E' | 'M' | 'S' | 'H' if state == ON_A_DAY =>
+            true,
         _ => false,
     }
 }

@@ -1,6 +1,7 @@
 // Works the lines of a day file on a register.
 mod letters;
 pub mod year;
+
 ghost use mathlib.Core.Path.{_≡_};
 ghost use Rattle.register.specs.Shows.{view};
 ghost use Rattle.desk.specs.Work.{line-step, Works-file, Works-day, Last-line-counts};
@@ -40,7 +41,11 @@ pub fn work_line(register: &mut Register, line: &[u8]) -> Answer
 }
 
 // Works a whole file: an answer for each of its lines. The room for all answers is had before the first line is worked.
-pub fn work_file(heap: Global, register: &mut Register, file: &[u8]) -> Result<Vec<Answer>, FileError>
+pub fn work_file(
+    heap: Global,
+    register: &mut Register,
+    file: &[u8],
+) -> Result<Vec<Answer>, FileError>
     ensures works { λ r. ⌜ Works-file (view (now (register .entry))) (now (file .entry)) (view (now (register .exit))) r ⌝ }
     ensures last_line { λ _. ⌜ Last-line-counts ⌝ }
 {

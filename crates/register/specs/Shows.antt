@@ -31,10 +31,10 @@ untaken v = (v, Refused WrongState 0)
 
 -- what an opening makes of a shut register, and closing of an open one
 abbrev pub after-opening : View → View × Answer
-after-opening v =
-    ( record { days = v .days; standing = opened (v .days) (v .standing) }
-    , Opened record { number = opening-date (next-after (v .standing .day) (v .days)) }
-    )
+after-opening v = (
+  record { days = v .days; standing = opened (v .days) (v .standing) },
+  Opened record { number = opening-date (next-after (v .standing .day) (v .days)) },
+)
 
 abbrev pub after-closing : View → View × Answer
 after-closing v = (record { days = v .days; standing = closed (v .standing) }, Closed 0 0)

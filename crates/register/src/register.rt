@@ -6,7 +6,9 @@ use calendar::Date;
 
 // The numbers of the states.
 pub const SHUT: u8 = 0;
+
 pub const ON_A_DAY: u8 = 1;
+
 pub const ON_NO_DAY: u8 = 2;
 
 // A register that is shut, open on a business day, or open on no day.

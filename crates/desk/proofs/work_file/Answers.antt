@@ -30,9 +30,10 @@ pub loop-line-holds : need.loop-line-holds
 loop-line-holds c =
     let made = c .in-Ok-with-capacity .ensures tt .made in
     let v = view (c .args .register .now) in
-    let ls = lines-left (c .in-Ok .lines) in
-    ( ap {B = View × List Answer} (λ done. resumed v done ls) (made .0)
-    , omega (arith, made .1 .0, made .1 .1, few-lines (c .args .file .now) ls (c .in-Ok .ensures tt .lines)))
+    let ls = lines-left (c .in-Ok .lines) in (
+      ap {B = View × List Answer} (λ done. resumed v done ls) (made .0),
+      omega (arith, made .1 .0, made .1 .1, few-lines (c .args .file .now) ls (c .in-Ok .ensures tt .lines)),
+    )
 
 pub loop-line-again : need.loop-line-again
 loop-line-again c =
@@ -42,10 +43,11 @@ loop-line-again c =
     let rest = lines-left (c .next-line .last .self) in
     let done = vec-items (c .loop-line .answers) in
     let line = c .in-Some .line .now in
-    let e = first-line ls line (c .in-Some .ensures tt .line) ∙ ap (λ r. line ∷ r) (sym (c .in-Some .ensures tt .rest)) in
-    ( ap (λ ws. resumed w ws rest) (c .push-reserved .ensures .items)
-      ∙ stepped v w done line ls rest (c .work-line .result) (run-lines (view (c .args .register .now)) (lines-left (c .in-Ok .lines))) (c .work-line .ensures) e (c .loop-line .inv .0)
-    , omega (arith, c .loop-line .inv .1, ap length e, c .push-reserved .ensures .len, c .push-reserved .ensures .capacity))
+    let e = first-line ls line (c .in-Some .ensures tt .line) ∙ ap (λ r. line ∷ r) (sym (c .in-Some .ensures tt .rest)) in (
+      ap (λ ws. resumed w ws rest) (c .push-reserved .ensures .items)
+          ∙ stepped v w done line ls rest (c .work-line .result) (run-lines (view (c .args .register .now)) (lines-left (c .in-Ok .lines))) (c .work-line .ensures) e (c .loop-line .inv .0),
+      omega (arith, c .loop-line .inv .1, ap length e, c .push-reserved .ensures .len, c .push-reserved .ensures .capacity),
+    )
 
 pub returns : need.returns
 returns c =
@@ -54,8 +56,8 @@ returns c =
     let done = vec-items (c .loop-line .answers) in
     let e = no-line (lines-left (c .loop-line .lines)) (c .in-rest-next-line .ensures tt .line) in
     let h : (w, done) ≡ run-lines v (lines-left (c .in-Ok .lines)) =
-        ap {B = View × List Answer} (λ ws. (w, ws)) (sym (append-nil done)) ∙ ap (resumed w done) (sym e) ∙ c .loop-line .inv .0 in
-    record
-      { works = ap {B = View × Result (List Answer) Refusal} (λ (t : View × List Answer). (t .0, Ok (t .1))) h ∙ ap (by-lines v) (c .in-Ok .ensures tt .lines)
-      ; last-line = law
-      }
+    ap {B = View × List Answer} (λ ws. (w, ws)) (sym (append-nil done)) ∙ ap (resumed w done) (sym e) ∙ c .loop-line .inv .0 in
+    record {
+      works = ap {B = View × Result (List Answer) Refusal} (λ (t : View × List Answer). (t .0, Ok (t .1))) h ∙ ap (by-lines v) (c .in-Ok .ensures tt .lines);
+      last-line = law;
+    }
