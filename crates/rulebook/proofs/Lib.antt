@@ -28,3 +28,4 @@ pub mod Whole
 pub mod Limits
 pub mod Ministry
 pub mod Timely
+pub mod Moving

@@ -23,7 +23,7 @@ use Rattle.rulebook.specs.declared.Answer.{Answer}
 use Rattle.rulebook.specs.declared.Answer.the-variants as answer
 use Rattle.rulebook.specs.States.{shut, on-a-day, on-no-day, Standing}
 use Rattle.rulebook.specs.Answers.{cause-number}
-use Rattle.rulebook.specs.Words.{one-if, total, sum-below, Place, place, same, Payment, Leg, first, return, same-leg, Movement, placed, settled, redeemed, Amounts, Blocking, Instruction, alike, principal, Numbered, Setting, Book, Start, blocked, free, payment, priced, outstanding}
+use Rattle.rulebook.specs.Words.{one-if, total, sum-below, some-passes, Place, place, same, Payment, Leg, first, return, same-leg, Movement, placed, settled, redeemed, Amounts, Blocking, Instruction, alike, principal, Numbered, Setting, Book, Start, blocked, free, payment, priced, outstanding}
 use Rattle.rulebook.specs.Checks.{Check, is-registered, date-of, matures, knows, affords, is-inside, is-on-a-day, has-serial}
 use Rattle.rulebook.specs.Matching.{joins, same-option, same-order, counter}
 use Rattle.rulebook.specs.Rounds.{giver, leg-payment, is-leg-done, is-leg-refused}
@@ -326,3 +326,33 @@ Timely k (redeemed d p i u c y) = (is-registered k i ≡ true) × (matures k i �
 
 abbrev pub Issues-timely : Type 0
 Issues-timely = (s : Start) → Sensible s → (cs : List Call) → All (Timely (history s cs .book)) (history s cs .journal)
+
+-- a fate is one of some, whichever serial a joined one is joined to
+abbrev pub is-one-of : List Fate → Fate → Bool
+is-one-of fs g = some-passes (alike g) fs
+
+-- what each fate may be after one more call: a kept one may be matched as it wakes, and a joined one stays with its partner
+abbrev pub may-move : Fate → Fate → Bool
+may-move fate.Kept g =
+    is-one-of (fate.Kept ∷ fate.Unmatched ∷ fate.Matched ∷ fate.Joined 0 ∷ fate.Cancelled ∷ []) g
+may-move fate.Unmatched g = is-one-of (fate.Unmatched ∷ fate.Matched ∷ fate.Cancelled ∷ fate.Refused ∷ []) g
+may-move fate.Matched g = is-one-of (fate.Matched ∷ fate.Settled ∷ fate.RepoOut ∷ fate.Refused ∷ []) g
+may-move (fate.Joined n) g = joins n g
+may-move fate.Settled g = alike g fate.Settled
+may-move fate.RepoOut g = is-one-of (fate.RepoOut ∷ fate.RepoBack ∷ fate.ReturnRefused ∷ []) g
+may-move fate.RepoBack g = alike g fate.RepoBack
+may-move fate.Refused g = alike g fate.Refused
+may-move fate.ReturnRefused g = alike g fate.ReturnRefused
+may-move fate.Cancelled g = alike g fate.Cancelled
+
+-- j is i after one more call: its serial and order are the same, and its fate is one that i's may move to
+abbrev pub follows : Instruction → Instruction → Bool
+follows i j = has-serial (i .serial) j && (same-order (j .order) (i .order) && may-move (i .fate) (j .fate))
+
+-- whatever call comes next, each accepted instruction is found once after it, its fate moved so or not at all
+abbrev pub Fates-move : Type 0
+Fates-move =
+    (s : Start) → Sensible s → (cs : List Call) (c : Call)
+    → All
+    (λ i. total (λ j. one-if (follows i j)) (accepted (step s (history s cs) c)) ≡ 1)
+    (accepted (history s cs))

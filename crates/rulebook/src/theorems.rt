@@ -1,5 +1,5 @@
 // What holds of the rules, whatever is called: each function stands for the theorem that its contract names.
-ghost use Rattle.rulebook.specs.Laws.{Checks-rise, Refusal-keeps, State-refuses, Turns-granted, Knows-plainly, Journal-agrees, Journal-lawful, Rules-hold, Questions-keep, State-takes, Places-limited, Blockings-stay, Same-orders-equal, Ministry-paid, Issues-timely};
+ghost use Rattle.rulebook.specs.Laws.{Checks-rise, Refusal-keeps, State-refuses, Turns-granted, Knows-plainly, Journal-agrees, Journal-lawful, Rules-hold, Questions-keep, State-takes, Places-limited, Blockings-stay, Same-orders-equal, Ministry-paid, Issues-timely, Fates-move};
 ghost use Rattle.rulebook.specs.Sheet.{Sheet};
 ghost use Rattle.rulebook.specs.Works.{Obeying-works, Runs-work};
 ghost use Rattle.rulebook.specs.Cases.{More-cases};
@@ -128,6 +128,13 @@ pub fn ministry_paid() -> u8
 // Placements and legs of an issue lie before its maturity, redemptions at it or later.
 pub fn issues_timely() -> u8
     ensures { λ _. ⌜ Issues-timely ⌝ }
+{
+    0
+}
+
+// Whatever call comes next, each accepted instruction keeps its serial and order, and its fate moves only as it may.
+pub fn fates_move() -> u8
+    ensures { λ _. ⌜ Fates-move ⌝ }
 {
     0
 }
