@@ -29,3 +29,5 @@ pub mod Limits
 pub mod Ministry
 pub mod Timely
 pub mod Moving
+pub mod Reasons
+pub mod Passing

@@ -18,7 +18,7 @@ use Rattle.refusals.specs.declared.Refusal.{Refusal}
 use Rattle.refusals.specs.declared.Refusal.the-variants.{WrongState, NotFound}
 use Rattle.refusals.specs.Table.{number}
 use Rattle.calendar.specs.declared.Date.{Date}
-use Rattle.calendar.specs.Days.{passing}
+use Rattle.calendar.specs.Days.{passing, Rising-above}
 use Rattle.rulebook.specs.declared.Sender.{Sender}
 use Rattle.rulebook.specs.declared.Sender.the-variants.{Transferor, Acquirer}
 use Rattle.rulebook.specs.declared.Order.{Order}
@@ -35,7 +35,7 @@ use Rattle.rulebook.specs.Matching.{same-sender, same-date, same-option, same-
 use Rattle.rulebook.specs.Rounds.{try, try-moves, rounds, ended}
 use Rattle.rulebook.specs.Rules.{Outcome, refuses, does, status-of, checks, work, ruled, rule, answer-by, book-by, standing-now, opens, incoming, granted, rounded, closing-list, close-on-no-day, close-on-a-day}
 use Rattle.rulebook.specs.Journal.{Past, setting-of, reads, new-past, step, history-from, View, view-by}
-use Rattle.rulebook.specs.Laws.{Rises-from, check-numbers, suits, Questions-keep, State-takes, Limited, Places-limited, Blockings-stay, Same-orders-equal}
+use Rattle.rulebook.specs.Laws.{check-numbers, suits, Questions-keep, State-takes, Limited, Places-limited, Blockings-stay, Same-orders-equal}
 use Rattle.rulebook.proofs.Answering.{Passes, rule-both}
 use Rattle.rulebook.proofs.Rising.{checks-rise}
 use Rattle.rulebook.proofs.Totals.{total-push}
@@ -53,12 +53,12 @@ questions-keep =
 abbrev Other : Outcome → Type 0
 Other o = (field : ℕ) → answer-by o ≡ answer.Refused WrongState field → ⊥
 
-lower : (m n : ℕ) (xs : List ℕ) → m ≤ n → Rises-from n xs → Rises-from m xs
+lower : (m n : ℕ) (xs : List ℕ) → m ≤ n → Rising-above n xs → Rising-above m xs
 lower m n [] l r = tt
 lower m n (x ∷ xs) l r = (omega (arith, r .0), r .1)
 
 -- checks above 10 refuse for something else
-above-ten : (cs : List Check) (o : Outcome) → Rises-from 10 (check-numbers cs) → Other o → Other (ruled (verdict cs) o)
+above-ten : (cs : List Check) (o : Outcome) → Rising-above 10 (check-numbers cs) → Other o → Other (ruled (verdict cs) o)
 above-ten [] o r h = h
 above-ten (c ∷ cs) o r h =
     cond-both
@@ -72,7 +72,7 @@ above-ten (c ∷ cs) o r h =
     let n : number (c .1) ≡ 10 = ap number w in
     omega (arith, r .0))
 
-first-of : (b : Bool) (cs : List Check) (o : Outcome) → Rises-from 10 (check-numbers cs) → Other o → (field : ℕ)
+first-of : (b : Bool) (cs : List Check) (o : Outcome) → Rising-above 10 (check-numbers cs) → Other o → (field : ℕ)
     → answer-by (ruled (verdict ((b, WrongState) ∷ cs)) o) ≡ answer.Refused WrongState field → b ≡ false
 first-of true cs o r h field e = absurd (above-ten cs o r h field e)
 first-of false cs o r h field e = refl
@@ -101,7 +101,7 @@ rest v c = rest-of (checks (v .setting) (v .amounts) (v .book) c)
 abbrev done : View → Call → Outcome
 done v c = work (v .setting) (v .amounts) (v .book) c
 
-takes : (v : View) (c : Call) → Rises-from 10 (check-numbers (rest v c)) → answer-letter (answer-by (done v c)) ≡ 65 → (field : ℕ)
+takes : (v : View) (c : Call) → Rising-above 10 (check-numbers (rest v c)) → answer-letter (answer-by (done v c)) ≡ 65 → (field : ℕ)
     → answer-by (ruled (verdict ((suits (v .book .standing .state) c, WrongState) ∷ rest v c)) (done v c)) ≡ answer.Refused WrongState field
     → suits (v .book .standing .state) c ≡ false
 takes v c r h = first-of (suits (v .book .standing .state) c) (rest v c) (done v c) r (accepts (done v c) h)

@@ -2,14 +2,15 @@
 use mathlib.Core.Path.{_≡_, refl, ap, sym, subst, _∙_}
 use mathlib.Core.List.{List, [], _∷_, _++_}
 use mathlib.Core.Bool.{Bool, true, false, cond, not, _&&_, _||_}
-use Prim.Native.Nat.{ℕ, _+_, _≤_}
+use Prim.Native.Nat.{ℕ, _+_, _≤_, _<_}
 use native.Mathlib.Omega.{arith}
+use lib.Dec.{eqb}
 use Rattle.std.specs.declared.option.Option.{Option}
 use Rattle.std.specs.declared.option.Option.the-variants.{Some, None}
 use Rattle.std.specs.shelf.Lists.{All, Each}
 use Rattle.std.proofs.shelf.Lists.{append-nil, append-assoc}
 use Rattle.std.proofs.shelf.Elements.{all-append, all-weaker, each-push}
-use Rattle.std.proofs.shelf.Tests.{cond-both, and-parts, eq-eqb, eqb-true}
+use Rattle.std.proofs.shelf.Tests.{cond-both, and-parts, eq-eqb}
 use Rattle.std.proofs.shelf.Ways.{tells}
 use Rattle.refusals.specs.declared.Refusal.{Refusal}
 use Rattle.refusals.specs.declared.Refusal.the-variants.{NoPartner}
@@ -31,7 +32,7 @@ use Rattle.rulebook.proofs.Totals.{total-append, total-every, one-if-part, all
 use Rattle.rulebook.proofs.Ways.{Ready, try-both, ended-both, cancel-both, arrive-both}
 use Rattle.rulebook.proofs.Steps.{each-call, history-more}
 use Rattle.rulebook.proofs.Partners.{Akin, kin, once}
-use Rattle.rulebook.proofs.Punctual.{Well, due-day}
+use Rattle.rulebook.proofs.Punctual.{value, Well, due-day}
 use Rattle.rulebook.proofs.Endings.{well-holds}
 
 -- element by element, over lists
@@ -218,18 +219,25 @@ end-follows d i c =
     out : (f : Fate) → alike f fate.RepoOut ≡ true → may-move f fate.ReturnRefused ≡ true
     out f e = grind arith
 
-settled-end-follows : (days : List ℕ) (sd : Standing) (i : Instruction) → Well days sd i → (e : Leg) (r : Option Date) → i .order .«return_date» ≡ r
+-- a repo that goes out is due back on a later day
+pub out-stays : (days : List ℕ) (sd : Standing) (i : Instruction) → Well days sd i → i .fate ≡ fate.Matched
+    → ended (sd .day) (turned i fate.RepoOut None) ≡ turned i fate.RepoOut None
+out-stays days sd i w h =
+    ap (λ v. cond v (turned i fate.ReturnRefused None) (turned i fate.RepoOut None)) (later (i .order .«return_date») refl)
+  where
+    later : (r : Option Date) → i .order .«return_date» ≡ r → is-day (sd .day) r ≡ false
+    later None q = refl
+    later (Some r) q = lt-eqb (w .fit .return-date r q .1) (due-day days sd i w h)
+      where
+        lt-eqb : value (i .order) < r .number → value (i .order) ≡ sd .day → eqb (r .number) (sd .day) ≡ false
+        lt-eqb l e = grind (arith, tells)
+
+settled-end-follows : (days : List ℕ) (sd : Standing) (i : Instruction) → Well days sd i → (e : Leg) (r : Option Date)
     → Ready (sd .day) i e → Follows i (ended (sd .day) (settled-one i e r))
-settled-end-follows days sd i w first None q h = settled-follows (sd .day) i first None h
-settled-end-follows days sd i w first (Some r) q h =
-    cond-both
-    (is-day (sd .day) (i .order .«return_date»))
-    (turned i fate.ReturnRefused None)
-    (turned i fate.RepoOut None)
-    (Follows i)
-    (λ e. absurd (omega (arith, w .fit .return-date r q .1, due-day days sd i w h, eqb-true (r .number) (sd .day) (sym (ap (is-day (sd .day)) q) ∙ e))))
-    (λ _. settled-follows (sd .day) i first (Some r) h)
-settled-end-follows days sd i w return r q h = settled-follows (sd .day) i return r h
+settled-end-follows days sd i w first None h = settled-follows (sd .day) i first None h
+settled-end-follows days sd i w first (Some r) h =
+    subst (Follows i) (sym (out-stays days sd i w h)) (settled-follows (sd .day) i first (Some r) h)
+settled-end-follows days sd i w return r h = settled-follows (sd .day) i return r h
 
 close-follows : (days : List ℕ) (sd : Standing) (st : Setting) (bs : List Blocking) (is : List Instruction) (a : Amounts)
     → All (Well days sd) is → Each Follows is (ended-all (sd .day) (rounds st (sd .day) bs is a .0))
@@ -239,7 +247,7 @@ close-follows days sd st bs (i ∷ is) a w = (
       (λ _ _. end-follows (sd .day) i (i .cause))
       (λ _ _ _. end-follows (sd .day) i _)
       (λ _ _ _ _. end-follows (sd .day) i _)
-      (λ e r _ _. settled-end-follows days sd i (w .0) e (i .order .«return_date») refl r),
+      (λ e r _ _. settled-end-follows days sd i (w .0) e (i .order .«return_date») r),
   close-follows days sd st bs is (afters (try-moves st (sd .day) i (try st (sd .day) bs a i)) a) (w .1),
 )
 

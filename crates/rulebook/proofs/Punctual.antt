@@ -13,7 +13,7 @@ use Rattle.std.proofs.shelf.Elements.{all-push, all-weaker, all-map}
 use Rattle.std.proofs.shelf.Tests.{or-left, or-parts, cond-both, and-parts, and-right, or-cases, or-from, or-right, not-true, eqb-true, leb-false, le-ltb, lt-leb, both-ways}
 use Rattle.std.proofs.shelf.Ways.{tells}
 use Rattle.calendar.specs.declared.Date.{Date}
-use Rattle.calendar.specs.Days.{passing, is-business, first-from, next-after}
+use Rattle.calendar.specs.Days.{passing, is-business, first-from, next-after, Rising-above}
 use Rattle.rulebook.specs.declared.Order.{Order}
 use Rattle.rulebook.specs.declared.Fate.{Fate}
 use Rattle.rulebook.specs.declared.Fate.the-variants as fate
@@ -22,7 +22,7 @@ use Rattle.rulebook.specs.Words.{some-passes, Leg, first, return, Amounts, aft
 use Rattle.rulebook.specs.Checks.{may-cancel}
 use Rattle.rulebook.specs.Matching.{same-order, counter, is-partner, pair-up, met, arrive, wake, wake-all, has-ended, joins, leaves, cancelled-in}
 use Rattle.rulebook.specs.Rounds.{is-leg-refused, is-day, waits, settles, try, settled-one, tried, try-moves, rounds, ended, ended-all}
-use Rattle.rulebook.specs.Laws.{Rises-from, day-closed}
+use Rattle.rulebook.specs.Laws.{day-closed}
 use Rattle.rulebook.proofs.Ways.{Ready, try-both, ended-both, cancel-both, arrive-both, is-waiting}
 use Rattle.rulebook.proofs.Totals.{all-passes}
 
@@ -94,7 +94,7 @@ later-open : (sd : Standing) (v w : ℕ) → v ≤ w → day-closed sd v ≡ fal
 later-open sd v w l h = grind (arith, tells)
 
 -- business days rise, so the next one is the first of all later ones
-rises-above : (n : ℕ) (bs : List ℕ) (v : ℕ) → Rises-from n bs → is-business v bs ≡ true → n < v
+rises-above : (n : ℕ) (bs : List ℕ) (v : ℕ) → Rising-above n bs → is-business v bs ≡ true → n < v
 rises-above n [] v r h = never h
 rises-above n (b ∷ bs) v r h =
     ⊎-elim
@@ -102,7 +102,7 @@ rises-above n (b ∷ bs) v r h =
     (λ e. omega (arith, r .0, rises-above b bs v (r .1) e))
     (or-cases (eqb b v) (is-business v bs) h)
 
-first-least : (m n : ℕ) (bs : List ℕ) (d v : ℕ) → Rises-from m bs → first-from n bs ≡ Some d → is-business v bs ≡ true → n ≤ v → d ≤ v
+first-least : (m n : ℕ) (bs : List ℕ) (d v : ℕ) → Rising-above m bs → first-from n bs ≡ Some d → is-business v bs ≡ true → n ≤ v → d ≤ v
 first-least m n [] d v r e h l = never h
 first-least m n (b ∷ bs) d v r e h l = go (leb n b) refl e (λ y w. first-least b n bs d v (r .1) y w l)
   where
@@ -134,7 +134,7 @@ due-day days sd i h e =
     )
 
 -- opening closes no business day
-opening-open : (days : List ℕ) (sd : Standing) (v : ℕ) → Rises-from 0 days → eqb (sd .state) shut ≡ true → is-business v days ≡ true
+opening-open : (days : List ℕ) (sd : Standing) (v : ℕ) → Rising-above 0 days → eqb (sd .state) shut ≡ true → is-business v days ≡ true
     → day-closed sd v ≡ false → day-closed (opened days sd) v ≡ false
 opening-open days sd v r s b h = go (next-after (sd .day) days) refl
   where
@@ -145,7 +145,7 @@ opening-open days sd v r s b h = go (next-after (sd .day) days) refl
 refused-ended : (f : Fate) → is-leg-refused f ≡ true → has-ended f ≡ true
 refused-ended f e = grind arith
 
-pub opening-punctual : (days : List ℕ) (sd : Standing) → Rises-from 0 days → eqb (sd .state) shut ≡ true
+pub opening-punctual : (days : List ℕ) (sd : Standing) → Rising-above 0 days → eqb (sd .state) shut ≡ true
     → (i : Instruction) → Well days sd i → has-ended (i .fate) ≡ false → Comes days (opened days sd) i
 opening-punctual days sd r s i h stays = (
   h .fit,

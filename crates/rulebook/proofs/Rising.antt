@@ -5,18 +5,19 @@ use mathlib.Core.Bool.{Bool, true, _&&_}
 use Prim.Native.Nat.{ℕ}
 use lib.Dec.{ltb}
 use Rattle.std.proofs.shelf.Tests.{and-parts, ltb-true}
+use Rattle.calendar.specs.Days.{Rising-above}
 use Rattle.rulebook.specs.declared.Call.{Call}
 use Rattle.rulebook.specs.declared.Call.the-variants as call
 use Rattle.rulebook.specs.Words.{Amounts, Setting, Book}
 use Rattle.rulebook.specs.Rules.{checks}
-use Rattle.rulebook.specs.Laws.{Rises-from, check-numbers, Checks-rise}
+use Rattle.rulebook.specs.Laws.{check-numbers, Checks-rise}
 
 -- whether numbers rise, as a test
 abbrev rising : ℕ → List ℕ → Bool
 rising n [] = true
 rising n (x ∷ xs) = ltb n x && rising x xs
 
-rises : (n : ℕ) (xs : List ℕ) → rising n xs ≡ true → Rises-from n xs
+rises : (n : ℕ) (xs : List ℕ) → rising n xs ≡ true → Rising-above n xs
 rises n [] e = tt
 rises n (x ∷ xs) e =
     let h = and-parts (ltb n x) (rising x xs) e in

@@ -13,6 +13,7 @@ use Rattle.refusals.specs.declared.Refusal.{Refusal}
 use Rattle.refusals.specs.declared.Refusal.the-variants.{WrongState, NominalShort, MoneyShort}
 use Rattle.refusals.specs.Table.{number}
 use Rattle.calendar.specs.declared.Date.{Date}
+use Rattle.calendar.specs.Days.{Rising-above, is-business, count-between}
 use Rattle.money.specs.Funds.{Sound}
 use Rattle.rulebook.specs.declared.Order.{Order}
 use Rattle.rulebook.specs.declared.Fate.{Fate}
@@ -30,18 +31,13 @@ use Rattle.rulebook.specs.Rounds.{giver, leg-payment, is-leg-done, is-leg-refu
 use Rattle.rulebook.specs.Rules.{checks, opening-day}
 use Rattle.rulebook.specs.Journal.{Journal, taken, brought, paid, received, times, had, reads, setting-of, Past, accepted, step, history, answers, View, next, run, first-view, told}
 
--- numbers that rise, each above the one before it
-abbrev pub Rises-from : ℕ → List ℕ → Type 0
-Rises-from n [] = Unit {0}
-Rises-from n (x ∷ xs) = (n < x) × Rises-from x xs
-
 -- the checks of every call run in the order of their refusals' numbers, from 10 on
 abbrev pub check-numbers : List Check → List ℕ
 check-numbers cs = map (λ c. number (c .1)) cs
 
 abbrev pub Checks-rise : Type 0
 Checks-rise =
-    (st : Setting) (a : Amounts) (k : Book) (c : Call) → Rises-from 9 (check-numbers (checks st a k c))
+    (st : Setting) (a : Amounts) (k : Book) (c : Call) → Rising-above 9 (check-numbers (checks st a k c))
 
 -- which calls each state takes
 abbrev pub suits : ℕ → Call → Bool
@@ -82,7 +78,7 @@ pub record Sensible (s : Start) : Type 0 where
   pub few : s .participants ≤ 32
   pub known : s .participants ≤ length (s .funds .accounts)
   pub funds : Sound (s .funds)
-  pub days : Rises-from 0 (s .days)
+  pub days : Rising-above 0 (s .days)
 
 -- there a participant is known if it is below the number of participants
 abbrev pub Knows-plainly : Type 0
@@ -356,3 +352,45 @@ Fates-move =
     → All
     (λ i. total (λ j. one-if (follows i j)) (accepted (step s (history s cs) c)) ≡ 1)
     (accepted (history s cs))
+
+-- no try has failed; the last one failed for want of nominal or of money
+abbrev pub is-blank : Option Refusal → Bool
+is-blank c = eqb (cause-number c) 0
+
+abbrev pub is-short : Option Refusal → Bool
+is-short c = eqb (cause-number c) 19 || eqb (cause-number c) 20
+
+-- the causes that go with each fate: none before a leg is due; behind a refusal a try that failed, or no partner
+abbrev pub cause-suits : Fate → Option Refusal → Bool
+cause-suits fate.Kept c = is-blank c
+cause-suits fate.Unmatched c = is-blank c
+cause-suits fate.Matched c = is-blank c || is-short c
+cause-suits (fate.Joined n) c = is-blank c
+cause-suits fate.Settled c = is-blank c || is-short c
+cause-suits fate.RepoOut c = is-blank c || is-short c
+cause-suits fate.RepoBack c = is-blank c || is-short c
+cause-suits fate.Refused c = is-short c || eqb (cause-number c) 21
+cause-suits fate.ReturnRefused c = is-short c
+cause-suits fate.Cancelled c = is-blank c
+
+-- after every list of calls, each accepted instruction's cause goes with its fate
+abbrev pub Causes-suit : Type 0
+Causes-suit =
+    (s : Start) → Sensible s → (cs : List Call)
+    → All (λ i. cause-suits (i .fate) (i .cause) ≡ true) (accepted (history s cs))
+
+-- opening goes to the one business day that comes next, or, where none is later, to no day
+abbrev pub Goes-on : List ℕ → ℕ → ℕ → ℕ → Type 0
+Goes-on days before answered after =
+    ((answered ≡ 0) × (after ≡ before) × All (λ b. b ≤ before) days)
+    ⊎ ((is-business answered days ≡ true) × (count-between before answered days ≡ 1) × (after ≡ answered))
+
+-- business days pass one by one: none is left out or opened twice, and no call but opening changes the day
+pub record Days-pass : Type 0 where
+  pub opening : (v : View) (d : Date)
+      → Rising-above 0 (v .setting .days)
+      → next v call.Opening .1 ≡ answer.Opened d
+      → Goes-on (v .setting .days) (v .book .standing .day) (d .number) (next v call.Opening .0 .book .standing .day)
+  pub others : (v : View) (c : Call)
+      → (c ≡ call.Opening → ⊥)
+      → next v c .0 .book .standing .day ≡ v .book .standing .day

@@ -1,5 +1,5 @@
 // What holds of the rules, whatever is called: each function stands for the theorem that its contract names.
-ghost use Rattle.rulebook.specs.Laws.{Checks-rise, Refusal-keeps, State-refuses, Turns-granted, Knows-plainly, Journal-agrees, Journal-lawful, Rules-hold, Questions-keep, State-takes, Places-limited, Blockings-stay, Same-orders-equal, Ministry-paid, Issues-timely, Fates-move};
+ghost use Rattle.rulebook.specs.Laws.{Checks-rise, Refusal-keeps, State-refuses, Turns-granted, Knows-plainly, Journal-agrees, Journal-lawful, Rules-hold, Questions-keep, State-takes, Places-limited, Blockings-stay, Same-orders-equal, Ministry-paid, Issues-timely, Days-pass, Fates-move, Causes-suit};
 ghost use Rattle.rulebook.specs.Sheet.{Sheet};
 ghost use Rattle.rulebook.specs.Works.{Obeying-works, Runs-work};
 ghost use Rattle.rulebook.specs.Cases.{More-cases};
@@ -135,6 +135,20 @@ pub fn issues_timely() -> u8
 // Whatever call comes next, each accepted instruction keeps its serial and order, and its fate moves only as it may.
 pub fn fates_move() -> u8
     ensures { λ _. ⌜ Fates-move ⌝ }
+{
+    0
+}
+
+// Every accepted instruction's cause is one that its fate can have.
+pub fn causes_suit() -> u8
+    ensures { λ _. ⌜ Causes-suit ⌝ }
+{
+    0
+}
+
+// Business days pass one by one, and only opening changes the day.
+pub fn days_pass() -> u8
+    ensures { λ _. ⌜ Days-pass ⌝ }
 {
     0
 }
