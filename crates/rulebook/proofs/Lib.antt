@@ -1,7 +1,6 @@
 pub mod Sheet
 pub mod Cases
-pub mod Day
-pub mod Week
+pub mod Runs
 pub mod Rising
 pub mod Totals
 pub mod Turns

@@ -10,3 +10,4 @@ pub mod Sheet
 pub mod Cases
 pub mod Laws
 pub mod Works
+pub mod Runs

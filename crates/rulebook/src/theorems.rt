@@ -1,5 +1,6 @@
 // What holds of the rules, whatever is called: each function stands for the theorem that its contract names.
 ghost use Rattle.rulebook.specs.Laws.{Checks-rise, Refusal-keeps, State-refuses, Turns-granted, Knows-plainly, Journal-agrees, Journal-lawful, Rules-hold, Questions-keep, State-takes, Places-limited, Blockings-stay, Same-orders-equal, Ministry-paid, Issues-timely, Days-pass, Fates-move, Causes-suit};
+ghost use Rattle.rulebook.specs.Runs.{Runs-whole};
 ghost use Rattle.rulebook.specs.Sheet.{Sheet};
 ghost use Rattle.rulebook.specs.Works.{Obeying-works, Runs-work};
 ghost use Rattle.rulebook.specs.Cases.{More-cases};
@@ -72,6 +73,13 @@ pub fn edge_cases_hold() -> u8
 // Each call's refusals and limits, and the course of instructions, case by case.
 pub fn more_cases_hold() -> u8
     ensures { λ _. ⌜ More-cases ⌝ }
+{
+    0
+}
+
+// A whole day and a whole week are answered as written.
+pub fn runs_whole() -> u8
+    ensures { λ _. ⌜ Runs-whole ⌝ }
 {
     0
 }

@@ -1,5 +1,3 @@
-use Rattle.rulebook.proofs.Day
-use Rattle.rulebook.proofs.Week
 use Rattle.rulebook.proofs.Sheet.{sheet}
 use Rattle.rulebook.proofs.theorems.edge_cases_hold.Needs as need
 
