@@ -1,4 +1,6 @@
 // Business days from month masks.
+#![tactic(auto)]
+
 ghost use Rattle.std.specs.Prelude.{◌≡◌, ◌≤◌};
 ghost use Rattle.calendar.specs.Days.{month_length, is_date};
 

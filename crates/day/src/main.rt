@@ -1,4 +1,6 @@
 // The day program: a day file on standard input, its answer lines on standard output.
+#![tactic(auto)]
+
 use anyhow::anyhow;
 use dayfile::write_answer;
 use desk::{FileError, work_day};

@@ -1,4 +1,6 @@
 // The day file: its lines and their fields, calls out of lines, answers into lines.
+#![tactic(auto)]
+
 mod answers;
 mod calls;
 mod fields;

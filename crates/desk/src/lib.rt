@@ -1,4 +1,6 @@
 // Works the lines of a day file on a register.
+#![tactic(auto)]
+
 mod letters;
 pub mod year;
 

@@ -1,4 +1,6 @@
 // The money side: one interface by its meaning, a ledger, and agent tables on any money side.
+#![tactic(auto)]
+
 mod agents;
 mod ledger;
 mod transfers;

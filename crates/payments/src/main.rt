@@ -1,4 +1,6 @@
 // Payments of every ending: on a ledger, on an agent table over it, and on a table over that.
+#![tactic(auto)]
+
 ghost use Rattle.std.specs.Prelude.{◌≡◌};
 ghost use Rattle.payments.specs.Sums.{whole};
 

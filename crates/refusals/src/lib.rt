@@ -1,4 +1,6 @@
 // Why a call is refused: the table of refusals, in the order in which checks run.
+#![tactic(auto)]
+
 ghost use Rattle.std.specs.Prelude.{◌≡◌};
 ghost use Rattle.refusals.specs.Table.{number};
 

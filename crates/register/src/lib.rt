@@ -1,3 +1,5 @@
 // The register of book-entry securities.
+#![tactic(auto)]
+
 pub mod register;
 pub mod states;

@@ -1,4 +1,6 @@
 // The words of the register: what is called, and what is answered.
+#![tactic(auto)]
+
 use calendar::Date;
 use refusals::Refusal;
 

@@ -1,4 +1,6 @@
 // Walks past the end of the calendar of 2025: the year's last two business days, and two openings on no day.
+#![tactic(auto)]
+
 ghost use Rattle.std.specs.Prelude.{◌≡◌};
 ghost use Rattle.rulebook.specs.declared.Call.TheVariants.{Opening, Closing};
 ghost use Rattle.rulebook.specs.declared.Answer.TheVariants.{Opened};

@@ -5,8 +5,8 @@ use Rattle.dayfile.proofs.calls.read_call.Goals as goal
 pub returns-in-Err : goal.returns-in-Err
 returns-in-Err c = record { call = search rules; back = read_spelled }
 
-pub returns-in-Err-kind-of : goal.returns-in-Err-kind-of
-returns-in-Err-kind-of c = record { call = search rules; back = read_spelled }
+pub returns-in-Err-kind_of : goal.returns-in-Err-kind_of
+returns-in-Err-kind_of c = record { call = search rules; back = read_spelled }
 
 pub returns-in-Some : goal.returns-in-Some
 returns-in-Some c = record { call = search rules; back = read_spelled }

@@ -4,16 +4,16 @@ use Rattle.dayfile.specs.Values.{value_from}
 use Rattle.dayfile.proofs.Figures.{digits_below, digit, value_grows}
 use Rattle.dayfile.proofs.values.value.Goals as goal
 
-pub overflow-mul-number : goal.overflow-mul-number
-overflow-mul-number c =
+pub overflow_mul-number : goal.overflow_mul-number
+overflow_mul-number c =
     let bs = c.args.bytes.now in
     omega (arith, digits_below bs 16 c.requires.digits c.requires.few, value_grows c.loop-b.number (drop c.loop-b.b-index bs), c.loop-b.invariant)
 
-pub overflow-sub-number : goal.overflow-sub-number
-overflow-sub-number c = omega (arith, digit c.args.bytes.now c.loop-b.b-index c.requires.digits c.loop-b-test.true)
+pub overflow_sub-number : goal.overflow_sub-number
+overflow_sub-number c = omega (arith, digit c.args.bytes.now c.loop-b.b-index c.requires.digits c.loop-b-test.true)
 
-pub overflow-add-number : goal.overflow-add-number
-overflow-add-number c =
+pub overflow_add-number : goal.overflow_add-number
+overflow_add-number c =
     let bs = c.args.bytes.now in
     omega (arith, digit bs c.loop-b.b-index c.requires.digits c.loop-b-test.true, digits_below bs 16 c.requires.digits c.requires.few, value_grows c.loop-b.number (drop c.loop-b.b-index bs), c.loop-b.invariant)
 

@@ -10,9 +10,9 @@ use Rattle.calendar.proofs.years.months.count_upto.Goals as goal
 pub loop-i-preserved : goal.loop-i-preserved
 loop-i-preserved c =
     let more = count_more c.args.first c.args.masks.now c.loop-i.i c.args.upto c.loop-i-test.true c.loop-i.invariant.2 in
-    let same = c.count-upto-count.ensures.is
-    ∙ ap (λ n. ones (get_or c.args.masks.now c.loop-i.i 0 % 2 ^ (c.args.upto - n))) c.month-at.ensures.number in
-    (omega (arith, more, same, c.loop-i.invariant.0), omega (arith, c.loop-i.invariant.1, c.count-upto-count.ensures.few), (within_rest c.args.first c.args.masks.now c.loop-i.i c.loop-i-test.true c.loop-i.invariant.2).1)
+    let same = c.count_upto-count.ensures.is
+    ∙ ap (λ n. ones (get_or c.args.masks.now c.loop-i.i 0 % 2 ^ (c.args.upto - n))) c.month_at.ensures.number in
+    (omega (arith, more, same, c.loop-i.invariant.0), omega (arith, c.loop-i.invariant.1, c.count_upto-count.ensures.few), (within_rest c.args.first c.args.masks.now c.loop-i.i c.loop-i-test.true c.loop-i.invariant.2).1)
 
 pub returns : goal.returns
 returns c =

@@ -7,14 +7,14 @@ use Rattle.calendar.proofs.years.months.first_from.Goals as goal
 
 pub returns-in-Some : goal.returns-in-Some
 returns-in-Some c =
-    sym (month_found c.args.first c.args.masks.now c.loop-i.i c.loop-i-test.true c.month-at.result.number c.month-at.result.length
-    c.month-at.ensures.number c.month-at.ensures.long c.args.from c.in-Some.day (sym c.first_from.ensures ∙ c.in-Some.is))
+    sym (month_found c.args.first c.args.masks.now c.loop-i.i c.loop-i-test.true c.month_at.result.number c.month_at.result.length
+    c.month_at.ensures.number c.month_at.ensures.long c.args.from c.in-Some.day (sym c.first_from.ensures ∙ c.in-Some.is))
     ∙ c.loop-i.invariant
 
 pub loop-i-preserved : goal.loop-i-preserved
 loop-i-preserved c =
-    sym (month_passed c.args.first c.args.masks.now c.loop-i.i c.loop-i-test.true c.month-at.result.number c.month-at.result.length
-    c.month-at.ensures.number c.month-at.ensures.long c.args.from (sym c.first_from.ensures ∙ c.in-default.is))
+    sym (month_passed c.args.first c.args.masks.now c.loop-i.i c.loop-i-test.true c.month_at.result.number c.month_at.result.length
+    c.month_at.ensures.number c.month_at.ensures.long c.args.from (sym c.first_from.ensures ∙ c.in_default.is))
     ∙ c.loop-i.invariant
 
 pub returns : goal.returns

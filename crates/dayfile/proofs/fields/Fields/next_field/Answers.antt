@@ -10,14 +10,14 @@ use Rattle.dayfile.proofs.fields.Fields.next_field.Goals.{then-end-rest, else-en
 pub returns : goal.returns
 returns c =
     let rest = c.in-Some.rest.now in
-    let end = c.end-of-end.result in
+    let end = c.end_of-end.result in
     let n = c.args.self.now.number in
     let part = take (end - 0) rest in
     let e : parts_left c.args.self.now.rest ≡ part ∷ parts_left c.if-end-rest.self = ap parts_left c.in-Some.is ∙ elim c.if-end-rest.branch [
-      | then-end-rest w ↦ field_mark rest end c.end-of-end.ensures.value w.if-end-rest.true ∙ ap (λ l. part ∷ l) (ap fields (sym (take_rest rest (end + 1))) ∙ ap parts_left (sym w.self-is))
-      | else-end-rest w ↦ field_last rest end c.end-of-end.ensures.value w.if-end-rest.false ∙ ap (λ o. part ∷ parts_left o) (sym w.self-is)
+      | then-end-rest w ↦ field_mark rest end c.end_of-end.ensures.value w.if-end-rest.true ∙ ap (λ l. part ∷ l) (ap fields (sym (take_rest rest (end + 1))) ∙ ap parts_left (sym w.self-is))
+      | else-end-rest w ↦ field_last rest end c.end_of-end.ensures.value w.if-end-rest.false ∙ ap (λ o. part ∷ parts_left o) (sym w.self-is)
     ] in
-    let m = c.saturating-add-self.ensures in
+    let m = c.saturating_add-self.ensures in
     let whole : numbered (next_number n) (parts_left c.args.self.now.rest) ≡ (next_number n, look_of part) ∷ numbered (next_number (next_number n)) (parts_left c.if-end-rest.self) = ap (numbered (next_number n)) e in
     record {
       field = ap (λ k. Some (k, look c.of.result)) m ∙ ap (λ x. Some (next_number n, x)) c.of.ensures ∙ ap first_of (sym whole);

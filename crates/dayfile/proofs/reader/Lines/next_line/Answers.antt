@@ -15,10 +15,10 @@ pub returns : goal.returns
 returns c =
     let file = c.args.self.now.file.now in
     let from = c.args.self.now.place in
-    let end = c.end-of-end.result in
+    let end = c.end_of-end.result in
     let part = take (end - from) (drop from file) in
     let e : lines (drop from file) ≡ part ∷ lines (drop c.if-end-file.self file) = elim c.if-end-file.branch [
-      | then-end-file w ↦ cut_mark 10 [] file from end c.end-of-end.ensures.value w.if-end-file.true ∙ ap (λ n. part ∷ lines (drop n file)) (sym w.self-is)
-      | else-end-file w ↦ cut_last 10 [] file from end c.end-of-end.ensures.value (λ b. refl) c.if-from-file.false w.if-end-file.false ∙ ap (λ l. part ∷ lines l) (sym (drop_all end file w.if-end-file.false) ∙ ap (λ n. drop n file) (sym w.self-is))
+      | then-end-file w ↦ cut_mark 10 [] file from end c.end_of-end.ensures.value w.if-end-file.true ∙ ap (λ n. part ∷ lines (drop n file)) (sym w.self-is)
+      | else-end-file w ↦ cut_last 10 [] file from end c.end_of-end.ensures.value (λ b. refl) c.if-from-file.false w.if-end-file.false ∙ ap (λ l. part ∷ lines l) (sym (drop_all end file w.if-end-file.false) ∙ ap (λ n. drop n file) (sym w.self-is))
     ] in
     record { line = ap first_of (sym e); rest = ap rest_of (sym e) }

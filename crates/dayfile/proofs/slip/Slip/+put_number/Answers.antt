@@ -19,8 +19,8 @@ returns-then-number-lt10 t c =
       size = omega (arith, ap length e);
     }
 
-pub put-number-requires : goal.put-number-requires
-put-number-requires t c = (omega arith, omega (arith, longer c.args.number (omega arith) (omega arith)))
+pub put_number-requires : goal.put_number-requires
+put_number-requires t c = (omega arith, omega (arith, longer c.args.number (omega arith) (omega arith)))
 
 pub put-requires-2 : goal.put-requires-2
 put-requires-2 t c = omega (arith, longer c.args.number (omega arith) (omega arith))
@@ -31,6 +31,6 @@ returns t c =
     let e = decimal_step n (omega arith) (omega arith) in
     let w = written c.args.self.now in
     record {
-      text = c.put-2.ensures.text ∙ ap (λ u. u ++ (48 + n % 10) ∷ []) c.put-number.ensures.text ∙ append_assoc w (decimal (n / 10)) ((48 + n % 10) ∷ []) ∙ ap (λ u. w ++ u) (sym e);
+      text = c.put-2.ensures.text ∙ ap (λ u. u ++ (48 + n % 10) ∷ []) c.put_number.ensures.text ∙ append_assoc w (decimal (n / 10)) ((48 + n % 10) ∷ []) ∙ ap (λ u. w ++ u) (sym e);
       size = omega (arith, longer n (omega arith) (omega arith));
     }

@@ -3,8 +3,8 @@ use Rattle.std.proofs.lemmas.List.{take_more_set}
 use Rattle.dayfile.proofs.Slips.{zeros_more}
 use Rattle.dayfile.proofs.slip.Slip.put.Goals as goal
 
-pub invariant-of-self : goal.invariant-of-self
-invariant-of-self c =
+pub invariant_of-self : goal.invariant_of-self
+invariant_of-self c =
     let s = c.args.self.now in
     (omega arith, (zeros_more 120 s.bytes s.size c.args.byte s.zeros, tt))
 

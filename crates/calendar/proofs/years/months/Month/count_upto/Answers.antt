@@ -5,8 +5,8 @@ use Rattle.calendar.proofs.years.months.Month.count_upto.Goals as goal
 
 pub returns-then-days-lt32 : goal.returns-then-days-lt32
 returns-then-days-lt32 c = record {
-  is = low_ones c.args.mask c.saturating-sub-days.result (c.args.upto - c.args.self.number) c.if-days-lt32.true c.saturating-sub-days.ensures;
-  few = low_few c.args.mask ((1 * 2 ^ c.saturating-sub-days.result) % 4294967296 - 1) (omega arith);
+  is = low_ones c.args.mask c.saturating_sub-days.result (c.args.upto - c.args.self.number) c.if-days-lt32.true c.saturating_sub-days.ensures;
+  few = low_few c.args.mask ((1 * 2 ^ c.saturating_sub-days.result) % 4294967296 - 1) (omega arith);
 }
 
 pub returns-else-days-lt32 : goal.returns-else-days-lt32

@@ -5,4 +5,4 @@ use Rattle.money.proofs.agents.rows.AgentTableMoney.account.Goals as goal
 pub returns : goal.returns
 returns g c =
     let t = c.args.self.now in
-    agent_account (g.M.Money.meaning t.below) (vec_items t.agents.rows) c.args.participant c.in-ok-agent.field-0 (g.M.Money.sound t.below) c.in-ok-agent.ensures c.account.result c.account.ensures
+    agent_account (g.M.Money.meaning t.below) (vec_items t.agents.rows) c.args.participant c.in_ok-agent.field-0 (g.M.Money.sound t.below) c.in_ok-agent.ensures c.account.result c.account.ensures

@@ -5,4 +5,4 @@ use Rattle.money.proofs.agents.rows.AgentTableMoney.balance.Goals as goal
 pub returns : goal.returns
 returns g c =
     let t = c.args.self.now in
-    agent_balance (g.M.Money.meaning t.below) (vec_items t.agents.rows) c.args.participant c.in-ok-agent.field-0 (g.M.Money.sound t.below) c.in-ok-agent.ensures c.balance.result c.balance.ensures
+    agent_balance (g.M.Money.meaning t.below) (vec_items t.agents.rows) c.args.participant c.in_ok-agent.field-0 (g.M.Money.sound t.below) c.in_ok-agent.ensures c.balance.result c.balance.ensures

@@ -19,10 +19,10 @@ returns-then-not-payable c =
     let e = pays_amount (vec_items v) (vec_len v) v.ok.0 c.args.payer c.args.payee c.args.amount (omega arith) (omega arith) (sym c.payable.ensures ∙ c.if-not-payable.true) in
     record { answer = ap answered (sym e); after = ap (left (of_ledger (vec_items v))) (sym e) }
 
-pub returns-then-same-account : goal.returns-then-same-account
-returns-then-same-account c =
+pub returns-then-same_account : goal.returns-then-same_account
+returns-then-same_account c =
     let v = c.args.self.now.balances in
-    let e = pays_same (vec_items v) (vec_len v) v.ok.0 c.args.payer c.args.payee c.args.amount (omega arith) (omega arith) (sym c.payable.ensures ∙ c.if-not-payable.false) (eqb-true c.args.payer c.args.payee (sym c.same_account.ensures ∙ c.if-same-account.true)) in
+    let e = pays_same (vec_items v) (vec_len v) v.ok.0 c.args.payer c.args.payee c.args.amount (omega arith) (omega arith) (sym c.payable.ensures ∙ c.if-not-payable.false) (eqb-true c.args.payer c.args.payee (sym c.same_account.ensures ∙ c.if-same_account.true)) in
     record { answer = ap answered (sym e); after = ap (left (of_ledger (vec_items v))) (sym e) }
 
 pub returns-then-not-covers : goal.returns-then-not-covers
@@ -30,7 +30,7 @@ returns-then-not-covers c =
     let v = c.args.self.now.balances in
     let from = get_or_read (vec_items v) c.args.payer c.index.result.now (omega (arith, v.ok.0)) c.index.ensures 0 in
     let short : get_or (vec_items v) c.args.payer 0 < c.args.amount = omega (arith, leb-false c.args.amount c.index.result.now (sym c.covers.ensures ∙ c.if-not-covers.true)) in
-    let e = pays_short (vec_items v) (vec_len v) v.ok.0 c.args.payer c.args.payee c.args.amount (omega arith) (omega arith) (sym c.payable.ensures ∙ c.if-not-payable.false) (eqb-false c.args.payer c.args.payee (sym c.same_account.ensures ∙ c.if-same-account.false)) short in
+    let e = pays_short (vec_items v) (vec_len v) v.ok.0 c.args.payer c.args.payee c.args.amount (omega arith) (omega arith) (sym c.payable.ensures ∙ c.if-not-payable.false) (eqb-false c.args.payer c.args.payee (sym c.same_account.ensures ∙ c.if-same_account.false)) short in
     record { answer = ap answered (sym e); after = ap (left (of_ledger (vec_items v))) (sym e) }
 
 pub returns : goal.returns
@@ -38,5 +38,5 @@ returns c =
     let v = c.args.self.now.balances in
     let from = get_or_read (vec_items v) c.args.payer c.index.result.now (omega (arith, v.ok.0)) c.index.ensures 0 in
     let enough : c.args.amount ≤ get_or (vec_items v) c.args.payer 0 = omega (arith, leb-true c.args.amount c.index.result.now (sym c.covers.ensures ∙ c.if-not-covers.false)) in
-    let e = pays_moved (vec_items v) (vec_len v) v.ok.0 c.args.payer c.args.payee c.args.amount (omega arith) (omega arith) (sym c.payable.ensures ∙ c.if-not-payable.false) (eqb-false c.args.payer c.args.payee (sym c.same_account.ensures ∙ c.if-same-account.false)) enough in
+    let e = pays_moved (vec_items v) (vec_len v) v.ok.0 c.args.payer c.args.payee c.args.amount (omega arith) (omega arith) (sym c.payable.ensures ∙ c.if-not-payable.false) (eqb-false c.args.payer c.args.payee (sym c.same_account.ensures ∙ c.if-same_account.false)) enough in
     record { answer = ap answered (sym e); after = ap of_ledger c.shift.ensures ∙ ap (left (of_ledger (vec_items v))) (sym e) }
