@@ -43,7 +43,7 @@ def respelled(name):
 
 
 def main():
-    names = sorted({name for path in antt_files() for name in declared(path)} | set(BOUND))
+    names = sorted({name for path in antt_files() for name in declared(path)} | set(BOUND) - {"All-append"})
     table = {name: respelled(name) for name in names}
     spelled = {}
     for path in antt_files():

@@ -2,7 +2,7 @@
 use Rattle.std.proofs.Common.{◌≡◌, ℕ, ◌+◌, ◌≤◌, false, ◌&&◌, ltb, List, [], ◌∷◌, ◌++◌, sym, refl, ap, ◌∙◌, subst, arith}
 use Rattle.std.specs.List.{AllByRecursion as All}
 use Rattle.std.proofs.lemmas.List.{append-nil, append_assoc}
-use Rattle.std.proofs.ByRecursion.{AllAppend, All-weaker}
+use Rattle.std.proofs.ByRecursion.{All-append, All-weaker}
 use Rattle.std.proofs.lemmas.Bool.{ne_eqb, and_left}
 use Rattle.rulebook.specs.declared.Order.{Order}
 use Rattle.rulebook.specs.declared.Fate.TheVariants as fate
@@ -91,7 +91,7 @@ module _ (s : Start) (h : Past) (k : Kept s h)
             (Proper (setting_of s) (ys ++ gone) next)
             (λ v q. (q.0, omega (arith, q.1, total_append (carried v) ys gone, total_append (carried v) xs gone, total_roll (carried v) (carries_bare (setting_of s) v) xs ys b)))
             (h.journal ++ vs)
-            (AllAppend _ h.journal vs k.proper p);
+            (All-append _ h.journal vs k.proper p);
         returns = behind_append [] h.journal vs k.returns r;
       }
 

@@ -2,7 +2,7 @@
 use Rattle.std.proofs.Common.{◌≡◌, ℕ, ◌+◌, ◌<◌, ◌≤◌, Bool, true, false, not, ◌&&◌, eqb, ltb, leb, ◌⊎◌, List, [], ◌∷◌, ◌++◌, Some, None, Option, refl, ap, ◌∙◌, subst, inl, inr, arith}
 use Rattle.std.specs.List.{AllByRecursion as All}
 use Rattle.std.proofs.lemmas.List.{append-nil}
-use Rattle.std.proofs.ByRecursion.{AllAppend, All-weaker}
+use Rattle.std.proofs.ByRecursion.{All-append, All-weaker}
 use Rattle.std.proofs.lemmas.Bool.{or_parts, not-true, cases_Bool, not_from_false, and_parts, both_ways, eqb-true, eq-eqb, ltb-true}
 use Rattle.std.proofs.lemmas.Bool.Decides.{nat_tests}
 use Rattle.calendar.specs.declared.Date.{Date}
@@ -200,7 +200,7 @@ module _ (s : Start) (sense : Sensible s) (h : Past) (i : EndsOf s h) where
       (λ x p. opening_punctual s.days sd sense.days op x p.0 (or_parts (has_ended x.fate) _ (not-true (leaves xs x) p.1)).0)
       (stayers xs)
       (all_passes (Well s.days sd) (λ x. not (leaves xs x)) xs i.well)))
-      (AllAppend Over (leavers xs) gone (leavers_over s.days sd xs xs i.well) i.over)
+      (All-append Over (leavers xs) gone (leavers_over s.days sd xs xs i.well) i.over)
 
   each_goes : (c : Call)
       → Goes s h (step s h c).book.standing (step s h c).book.instructions.standing (step s h c).journal (step s h c).departed
@@ -381,7 +381,7 @@ module _ (s : Start) (h : Past) (i : EndsOf s h) (a : Akin h) where
 
   all_punctual : All (λ x. Punctual h.book.standing x.order x.fate) zs
   all_punctual =
-      AllAppend (λ (x : Instruction). Punctual h.book.standing x.order x.fate) h.book.instructions.standing h.departed
+      All-append (λ (x : Instruction). Punctual h.book.standing x.order x.fate) h.book.instructions.standing h.departed
       (All-weaker (Well s.days h.book.standing) (λ x. Punctual h.book.standing x.order x.fate) (λ x w. w.punctual) h.book.instructions.standing i.well)
       (All-weaker Over (λ x. Punctual h.book.standing x.order x.fate) (λ x o. o h.book.standing) h.departed i.over)
 
@@ -503,7 +503,7 @@ module _ (s : Start) (h : Past) (i : EndsOf s h) (a : Akin h) where
   members =
       all_both (Member zs) (Fits (answered h.book.instructions.standing h.departed)) zs
       (member_le zs)
-      (AllAppend (Fits (answered h.book.instructions.standing h.departed)) h.book.instructions.standing h.departed a.fits a.fits_gone)
+      (All-append (Fits (answered h.book.instructions.standing h.departed)) h.book.instructions.standing h.departed a.fits a.fits_gone)
 
   ended_of : Sensible s → EndedPast s h
   ended_of sense =

@@ -1,7 +1,7 @@
 -- Who pays placements and redemptions.
 use Rattle.std.proofs.Common.{ℕ, List, [], ◌∷◌, refl}
 use Rattle.std.specs.List.{AllByRecursion as All}
-use Rattle.std.proofs.ByRecursion.{AllAppend}
+use Rattle.std.proofs.ByRecursion.{All-append}
 use Rattle.rulebook.specs.declared.Call.{Call}
 use Rattle.rulebook.specs.Words.{Movement, Amounts, after, Blocking, Instruction, Setting, Start}
 use Rattle.rulebook.specs.Checks.{today}
@@ -34,7 +34,7 @@ paid_from : (s : Start) (h : Past) (cs : List Call)
     → All (MinistrySide (setting_of s)) h.journal → All (MinistrySide (setting_of s)) (history_from s h cs).journal
 paid_from s h [] a = a
 paid_from s h (c ∷ cs) a =
-    paid_from s (step s h c) cs (AllAppend (MinistrySide (setting_of s)) h.journal (moves_by (outcome s h c)) a (one_call s h c))
+    paid_from s (step s h c) cs (All-append (MinistrySide (setting_of s)) h.journal (moves_by (outcome s h c)) a (one_call s h c))
 
 pub ministry_paid : MinistryPaid
 ministry_paid s cs = paid_from s new_past cs tt

@@ -3,7 +3,7 @@ use Rattle.std.proofs.Common.{◌≡◌, ℕ, ◌+◌, ◌<◌, ◌≤◌, Bool,
 use Rattle.std.specs.List.{AllZip, AllByRecursion as All}
 use Rattle.std.proofs.lemmas.List.{append-nil, append_assoc}
 use Rattle.std.proofs.lemmas.List.Elements.{AllZip-push}
-use Rattle.std.proofs.ByRecursion.{AllAppend, All-weaker}
+use Rattle.std.proofs.ByRecursion.{All-append, All-weaker}
 use Rattle.std.proofs.lemmas.Bool.{cond_both, and_parts, eq-eqb}
 use Rattle.std.proofs.lemmas.Bool.Decides.{nat_tests}
 use Rattle.refusals.specs.declared.Refusal.{Refusal}
@@ -291,13 +291,13 @@ found_itself xs = found_each xs xs (each_same Follows follows_none xs)
 -- beside those that left the list
 found_beside : (xs ys gone : List Instruction) → Found xs ys → Found (xs ++ gone) (ys ++ gone)
 found_beside xs ys gone h =
-    AllAppend (λ i. 1 ≤ finds (ys ++ gone) i) xs gone
+    All-append (λ i. 1 ≤ finds (ys ++ gone) i) xs gone
     (found_in xs ys (ys ++ gone) (λ f. omega (arith, total_append f ys gone)) h)
     (found_in gone gone (ys ++ gone) (λ f. omega (arith, total_append f ys gone)) (found_itself gone))
 
 found_opened : (d : ℕ) (xs gone : List Instruction) → Found (xs ++ gone) (wake_all d [] (stayers xs) ++ (leavers xs ++ gone))
 found_opened d xs gone =
-    AllAppend (λ i. 1 ≤ finds zs i) xs gone
+    All-append (λ i. 1 ≤ finds zs i) xs gone
     (all_split (λ i. 1 ≤ finds zs i) (leaves xs) xs
     (found_in (leavers xs) (leavers xs) zs (λ f. omega (arith, parts f)) (found_itself (leavers xs)))
     (found_in (stayers xs) ys zs (λ f. omega (arith, parts f)) (found_woken (stayers xs) ys (wake_all_wakes d [] (stayers xs)))))

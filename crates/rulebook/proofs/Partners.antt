@@ -1,7 +1,7 @@
 -- Over every list of calls: each joined instruction's partner, and the one joined to each that was matched.
 use Rattle.std.proofs.Common.{◌≡◌, ℕ, ◌+◌, ◌-◌, ◌<◌, ◌≤◌, Bool, true, not, ◌&&◌, eqb, ltb, List, [], ◌∷◌, ◌++◌, sym, refl, ap, ◌∙◌, subst, arith}
 use Rattle.std.specs.List.{AllZip, AllByRecursion as All}
-use Rattle.std.proofs.ByRecursion.{AllAppend, All-weaker}
+use Rattle.std.proofs.ByRecursion.{All-append, All-weaker}
 use Rattle.std.proofs.lemmas.Bool.{false≢true, cond_both, eq-eqb}
 use Rattle.std.proofs.lemmas.Bool.Decides.{nat_tests}
 use Rattle.calendar.specs.Days.{passing}
@@ -154,7 +154,7 @@ opened_kin d is gone next h =
           (between_passing 0 next stays is h.rising)
           tt
           (all_passing (Fits (answered js left)) stays is fits_now);
-      fits_gone = AllAppend (Fits (answered js left)) (leavers is) gone
+      fits_gone = All-append (Fits (answered js left)) (leavers is) gone
           (all_passing (Fits (answered js left)) (leaves is) is fits_now)
           (fits_more (answered is gone) (answered js left) more gone h.fits_gone);
     }
@@ -316,7 +316,7 @@ partner_holds s _ cs =
       ),
     ))
     (is ++ gone)
-    (AllAppend (Fits (answered is gone)) is gone (kin s cs).fits (kin s cs).fits_gone)
+    (All-append (Fits (answered is gone)) is gone (kin s cs).fits (kin s cs).fits_gone)
   where
     is : List Instruction
     is = (history s cs).book.instructions.standing

@@ -1,7 +1,7 @@
 -- Which causes an instruction has by its fate.
 use Rattle.std.proofs.Common.{◌≡◌, ℕ, true, false, cond, not, ◌&&◌, ◌||◌, List, [], ◌∷◌, ◌++◌, Some, None, Option, sym, refl, ap, ◌∙◌, subst, arith}
 use Rattle.std.specs.List.{AllByRecursion as All}
-use Rattle.std.proofs.ByRecursion.{AllAppend, All-push, All-map, All-weaker}
+use Rattle.std.proofs.ByRecursion.{All-append, All-push, All-map, All-weaker}
 use Rattle.std.proofs.lemmas.Bool.{cond_both, both_ways}
 use Rattle.refusals.specs.declared.Refusal.{Refusal}
 use Rattle.calendar.specs.declared.Date.{Date}
@@ -143,7 +143,7 @@ step_suits s h w a =
       plain = λ _ _. a;
       opening = λ _. (
         wake_suits (opened s.days k.standing).day [] (stayers xs) tt (all_passing Suits (λ i. not (leaves xs i)) xs a.0),
-        AllAppend Suits (leavers xs) h.departed (all_passing Suits (leaves xs) xs a.0) a.1,
+        All-append Suits (leavers xs) h.departed (all_passing Suits (leaves xs) xs a.0) a.1,
       );
       instructing = λ o _. (arrive_suits (today k) xs (incoming k o) a.0, a.1);
       cancelling = λ p n. (cancel_suits p n xs a.0, a.1);
@@ -166,7 +166,7 @@ step_suits s h w a =
 
 pub causes_suit : CausesSuit
 causes_suit s sense cs =
-    AllAppend Suits (history s cs).book.instructions.standing (history s cs).departed each.0 each.1
+    All-append Suits (history s cs).book.instructions.standing (history s cs).departed each.0 each.1
   where
     each : Suiting (history s cs).book.instructions.standing (history s cs).departed
     each =

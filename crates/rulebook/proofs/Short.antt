@@ -2,7 +2,7 @@
 use Rattle.std.proofs.Common.{◌≡◌, ℕ, ◌<◌, ◌≤◌, Bool, true, false, cond, ◌&&◌, eqb, List, [], ◌∷◌, ◌++◌, Some, None, Ok, Err, Option, sym, refl, ap, ◌∙◌, subst, inl, inr, arith}
 use Rattle.std.specs.List.{AllByRecursion as All}
 use Rattle.std.proofs.lemmas.List.{append-nil, append_assoc}
-use Rattle.std.proofs.ByRecursion.{AllAppend, All-weaker}
+use Rattle.std.proofs.ByRecursion.{All-append, All-weaker}
 use Rattle.std.proofs.lemmas.Bool.{cond_both, cond-false, and_parts, both_ways, or_left, eqb-true, ne_eqb}
 use Rattle.refusals.specs.declared.Refusal.{Refusal}
 use Rattle.refusals.specs.declared.Refusal.TheVariants.{WrongState, NominalShort, MoneyShort}
@@ -100,7 +100,7 @@ rounds_above : (st : Setting) (d : ℕ) (bs : List Blocking) (low : ℕ) (is : L
     → All (λ v. low < leg_serial v) (rounds st d bs is a).1
 rounds_above st d bs low [] high a c = tt
 rounds_above st d bs low (i ∷ is) high a c =
-    AllAppend
+    All-append
     _
     (try_moves st d i (try st d bs a i))
     _
@@ -150,7 +150,7 @@ module _ (s : Start) (sd : Standing) (on : sd.state ≡ on_a_day) (bs : List Blo
         rest = x.rest;
         split = ap (λ (z : Journal). m ++ z) x.split ∙ sym (append_assoc m x.before x.rest);
         above = omega (arith, x.above);
-        lower = AllAppend _ m x.before (All-weaker (λ v. leg_serial v ≡ n) _ (λ v e. omega (arith, e, x.above)) m q) x.lower;
+        lower = All-append _ m x.before (All-weaker (λ v. leg_serial v ≡ n) _ (λ v e. omega (arith, e, x.above)) m q) x.lower;
         higher = x.higher;
         short = subst (λ (z : Journal). Short s (reads s.funds z) bs y) (append_assoc j m x.before) x.short;
       })

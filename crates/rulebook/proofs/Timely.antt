@@ -2,7 +2,7 @@
 use Rattle.std.proofs.Common.{◌≡◌, ℕ, ◌+◌, ◌<◌, ◌≤◌, Bool, true, false, cond, not, ◌&&◌, eqb, ltb, leb, List, [], ◌∷◌, ◌++◌, map, is_some, Some, None, Option, sym, refl, ap, ◌∙◌, subst, arith}
 use Rattle.std.specs.List.{AllByRecursion as All}
 use Rattle.std.proofs.lemmas.List.{map_push, get_or-set_other}
-use Rattle.std.proofs.ByRecursion.{AllAppend, All-weaker}
+use Rattle.std.proofs.ByRecursion.{All-append, All-weaker}
 use Rattle.std.proofs.lemmas.Bool.{cond_both, and_parts, both_ways, eqb-true, eqb-false, ltb-true, leb-true}
 use Rattle.calendar.specs.declared.Date.{Date}
 use Rattle.calendar.specs.Days.{passing, is_business}
@@ -143,7 +143,7 @@ listed st a k c l = rule_both (λ o. AllBefore k (book_by k o).instructions.stan
     each (call.Instructing o) h =
         alike_orders (Before k) (is ++ incoming k o ∷ []) (arrive (today k) is (incoming k o))
         (arrive_bare (today k) is (incoming k o) ∙ sym (map_push bare is (incoming k o)))
-        (AllAppend (λ i. Before k i.order) is (incoming k o ∷ []) l (accepted_before st k o h.1.1.1.1.0, tt))
+        (All-append (λ i. Before k i.order) is (incoming k o ∷ []) l (accepted_before st k o h.1.1.1.1.0, tt))
     each (call.Cancelling p n) h = alike_orders (Before k) is (cancelled_in p n is) (cancelled_bare p n is) l
     each (call.Blocking o) h = l
     each (call.Releasing p n) h = l
@@ -200,9 +200,9 @@ dated_step s h c d =
     record {
       listed = before_too k k' p k'.instructions.standing (listed st a k c d.listed);
       left = before_too k k' p (leaving k c ++ h.departed)
-          (AllAppend (λ i. Before k i.order) (leaving k c) h.departed (leaves_before k c d.listed) d.left);
+          (All-append (λ i. Before k i.order) (leaving k c) h.departed (leaves_before k c d.listed) d.left);
       entries = All-weaker (Entry k) (Entry k') (entry_too k k' p) (step s h c).journal
-          (AllAppend (Entry k) h.journal (moves_by (outcome s h c)) d.entries (entered st a k c));
+          (All-append (Entry k) h.journal (moves_by (outcome s h c)) d.entries (entered st a k c));
     }
 
 dated_from : (s : Start) (h : Past) (cs : List Call) → Dated h → Dated (history_from s h cs)
@@ -249,7 +249,7 @@ issues_timely s w cs =
     let h = history s cs in
     let d = dated_from s new_past cs record { listed = tt; left = tt; entries = tt } in
     both (Entry h.book) _ (Timely h.book)
-    (timely h.book (setting_of s) (accepted h) (AllAppend _ h.book.instructions.standing h.departed d.listed d.left))
+    (timely h.book (setting_of s) (accepted h) (All-append _ h.book.instructions.standing h.departed d.listed d.left))
     h.journal
     d.entries
     (legs_holds s w cs)
