@@ -8,5 +8,5 @@ loop-end-preserved c = (omega arith, upto_more c.args.mark c.args.bytes.now c.lo
 pub returns-else-bytes-end : goal.returns-else-bytes-end
 returns-else-bytes-end c = record { value = sym (upto_mark c.args.mark c.args.bytes.now c.loop-end.end (omega arith) c.if-bytes-end.false) ∙ c.loop-end.invariant.1; bound = omega arith; size = omega arith }
 
-pub returns-after_loop-end : goal.returns-after_loop-end
-returns-after_loop-end c = record { value = sym (upto_all c.args.mark c.args.bytes.now c.loop-end.end (omega arith)) ∙ c.loop-end.invariant.1; bound = omega arith; size = omega arith }
+pub returns-after-loop-end : goal.returns-after-loop-end
+returns-after-loop-end c = record { value = sym (upto_all c.args.mark c.args.bytes.now c.loop-end.end (omega arith)) ∙ c.loop-end.invariant.1; bound = omega arith; size = omega arith }

@@ -6,7 +6,7 @@ use Rattle.dayfile.proofs.slip.Slip.put.Goals as goal
 pub invariant_of-self : goal.invariant_of-self
 invariant_of-self c =
     let s = c.args.self.now in
-    (omega arith, (zeros_more 120 s.bytes s.size c.args.byte s.zeros, tt))
+    record { within = omega arith; zeros = zeros_more 120 s.bytes s.size c.args.byte s.zeros }
 
 pub returns : goal.returns
 returns c =
