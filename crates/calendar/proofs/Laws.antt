@@ -1,12 +1,12 @@
 -- Business days rise, and each is a calendar date.
 use Rattle.std.proofs.Common.{◌≡◌, ℕ, zero, suc, ◌+◌, ◌-◌, ◌/◌, ◌%◌, ◌<◌, ◌≤◌, Bool, true, false, cond, ◌&&◌, ◌||◌, eqb, leb, List, [], ◌∷◌, ◌++◌, get_or, Some, None, refl, ap, ◌∙◌, add-suc, arith}
-use Rattle.std.specs.List.{AllByRecursion as All}
+use Rattle.std.specs.List.{AllByRecursion}
 use Rattle.std.proofs.lemmas.Bool.{and_from, le-leb, leb-true, cond_both}
 use Rattle.std.proofs.lemmas.Bool.Decides.{nat_tests}
 use Rattle.calendar.specs.Days.{lengths, month_length, month_number, is_date, is_business, first_from, RisingAbove, AllDates, LawfulDays}
 use Rattle.calendar.specs.Masks.{is_set, number_of, length_of, days_from, days_in, months_from, business_days}
 
-getD_short : (xs : List ℕ) → All (λ x. x ≤ 31) xs → (k : ℕ) → get_or xs k 0 ≤ 31
+getD_short : (xs : List ℕ) → AllByRecursion (λ x. x ≤ 31) xs → (k : ℕ) → get_or xs k 0 ≤ 31
 getD_short [] a k = omega arith
 getD_short (x ∷ xs) a zero = a.0
 getD_short (x ∷ xs) a (suc k) = getD_short xs a.1 k

@@ -1,20 +1,20 @@
 -- Lines and fields leave no byte out.
 use Rattle.std.proofs.Common.{◌≡◌, ℕ, ◌<◌, Bool, true, false, cond, eqb, ◌⊎◌, List, [], ◌∷◌, ◌++◌, length, sym, refl, ap, ◌∙◌, inl, inr, ⊎_elim, arith}
-use Rattle.std.specs.List.{AllByRecursion as All}
+use Rattle.std.specs.List.{AllByRecursion}
 use Rattle.std.proofs.lemmas.Bool.{eqb-true, eqb-false}
 use Rattle.dayfile.specs.Text.{prepend, parts, lines, fields, Without, ended, commas, commas_between, LinesParted, FieldsParted}
 
 -- no part has its mark
 module _ (mark : ℕ) where
-  prepend_without : (b : ℕ) (ps : List (List ℕ)) → (b ≡ mark → ⊥) → All (Without mark) ps → All (Without mark) (prepend b ps)
+  prepend_without : (b : ℕ) (ps : List (List ℕ)) → (b ≡ mark → ⊥) → AllByRecursion (Without mark) ps → AllByRecursion (Without mark) (prepend b ps)
   prepend_without b [] ne a = ((ne, tt), tt)
   prepend_without b (p ∷ ps) ne a = ((ne, a.0), a.1)
 
-  parts_without : (none : List (List ℕ)) → All (Without mark) none → (bs : List ℕ) → All (Without mark) (parts mark none bs)
+  parts_without : (none : List (List ℕ)) → AllByRecursion (Without mark) none → (bs : List ℕ) → AllByRecursion (Without mark) (parts mark none bs)
   parts_without none a [] = a
   parts_without none a (b ∷ bs) = go (eqb b mark) refl (parts_without none a bs)
     where
-      go : (t : Bool) → eqb b mark ≡ t → All (Without mark) (parts mark none bs) → All (Without mark) (cond t ([] ∷ parts mark none bs) (prepend b (parts mark none bs)))
+      go : (t : Bool) → eqb b mark ≡ t → AllByRecursion (Without mark) (parts mark none bs) → AllByRecursion (Without mark) (cond t ([] ∷ parts mark none bs) (prepend b (parts mark none bs)))
       go true e w = (tt, w)
       go false e w = prepend_without b (parts mark none bs) (eqb-false b mark e) w
 

@@ -1,6 +1,6 @@
 -- Every call is read back from its line.
 use Rattle.std.proofs.Common.{◌≡◌, ℕ, ◌^◌, ◌<◌, ◌≤◌, true, cond, ◌&&◌, ◌||◌, leb, List, [], ◌∷◌, length, is_some, Some, None, Ok, Err, decimal, Option, unwrap_or, sym, refl, ap, ◌∙◌, subst, arith}
-use Rattle.std.specs.List.{AllByRecursion as All}
+use Rattle.std.specs.List.{AllByRecursion}
 use Rattle.std.proofs.lemmas.Bool.{le-leb, and_from, or_right, cond-true}
 use Rattle.std.proofs.lemmas.Fmt.{digits_decimal}
 use Rattle.calendar.specs.declared.Date as calendar
@@ -56,7 +56,7 @@ plain_letter kind.Redeeming = (λ e. omega arith, tt)
 plain_letter kind.AskingStatus = (λ e. omega arith, tt)
 plain_letter kind.AskingHolding = (λ e. omega arith, tt)
 
-module _ (k : Kind) (ts : List (List ℕ)) (plain : All Plain ts) (short : length (commas (kind_letter k ∷ []) ts) ≤ 120) where
+module _ (k : Kind) (ts : List (List ℕ)) (plain : AllByRecursion Plain ts) (short : length (commas (kind_letter k ∷ []) ts) ≤ 120) where
   looks : line_fields (commas (kind_letter k ∷ []) ts) ≡ Ok (numbered 1 ((kind_letter k ∷ []) ∷ ts))
   looks =
       let line = commas (kind_letter k ∷ []) ts in

@@ -2,7 +2,7 @@
 use Rattle.std.proofs.Common.{◌≡◌, ℕ, zero, suc, ◌+◌, ◌-◌, ◌*◌, ◌/◌, ◌%◌, ◌^◌, ◌<◌, ◌≤◌, Bool, true, false, cond, not, ◌&&◌, ◌||◌, eqb, ltb, leb, List, [], ◌∷◌, ◌++◌, map, length, get_or, Some, None, decimal, sym, refl, ap, ◌∙◌, ⊎_elim, pow-suc, arith, rules}
 use Rattle.std.specs.Char.{is_ascii_digit}
 use Rattle.std.specs.Int.{IsInRange}
-use Rattle.std.specs.List.{AllByRecursion as All}
+use Rattle.std.specs.List.{AllByRecursion}
 use Rattle.std.specs.Str.{all_ascii_digits}
 use Rattle.std.proofs.lemmas.Bool.{ne_eqb, le-leb, and_from, and_parts, cases_lt}
 use Rattle.std.proofs.lemmas.Bool.Decides.{nat_tests}
@@ -35,7 +35,7 @@ field_alone : (f : List ℕ) → Plain f → fields f ≡ f ∷ []
 field_alone [] p = refl
 field_alone (b ∷ f) p = ap (λ t. cond t ([] ∷ fields f) (prepend b (fields f))) (ne_eqb b 44 p.0) ∙ ap (prepend b) (field_alone f p.1)
 
-pub fields_commas : (f : List ℕ) (gs : List (List ℕ)) → Plain f → All Plain gs → fields (commas f gs) ≡ f ∷ gs
+pub fields_commas : (f : List ℕ) (gs : List (List ℕ)) → Plain f → AllByRecursion Plain gs → fields (commas f gs) ≡ f ∷ gs
 fields_commas f [] p ps = field_alone f p
 fields_commas f (g ∷ gs) p ps = field_front f (commas g gs) p ∙ ap (λ l. f ∷ l) (fields_commas g gs ps.0 ps.1)
 

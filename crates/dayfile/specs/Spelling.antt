@@ -1,6 +1,6 @@
 -- How a call is spelled.
 use Rattle.std.specs.Prelude.{◌≡◌, ℕ, zero, suc, ◌+◌, ◌/◌, ◌%◌, ◌^◌, ◌<◌, ◌≤◌, List, [], ◌∷◌, ◌++◌, map, length, Some, None, Ok, decimal, Option}
-use Rattle.std.specs.List.{AllByRecursion as All}
+use Rattle.std.specs.List.{AllByRecursion}
 use Rattle.calendar.specs.declared.Date.{Date}
 use Rattle.rulebook.specs.declared.Side.{Side}
 use Rattle.rulebook.specs.declared.Side.TheVariants.{Own, Customer}
@@ -102,7 +102,7 @@ spelled c = commas (kind_letter (kind_called c) ∷ []) (map item_text (call_ite
 
 -- a call that a line can make
 pub record Writable (c : Call) : Type 0 where
-  pub bounded : All Bounded (call_items c)
+  pub bounded : AllByRecursion Bounded (call_items c)
   pub short : length (spelled c) ≤ 120
 
 -- the line of a call makes that call

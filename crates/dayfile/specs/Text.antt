@@ -1,6 +1,6 @@
 -- Bytes cut into lines and fields.
 use Rattle.std.specs.Prelude.{◌≡◌, ℕ, cond, ◌⊎◌, List, [], ◌∷◌, ◌++◌, Some, None, Ok, Err, Option, Result, ◌==◌, ◌≢◌}
-use Rattle.std.specs.List.{AllByRecursion as All}
+use Rattle.std.specs.List.{AllByRecursion}
 
 -- one byte more in front of the first part
 abbrev pub prepend : ℕ → List (List ℕ) → List (List ℕ)
@@ -45,7 +45,7 @@ if_ok (Err e) f = Err e
 
 -- bytes among which a mark does not stand
 abbrev pub Without : ℕ → List ℕ → Type 0
-Without mark bs = All (λ b. b ≢ mark) bs
+Without mark bs = AllByRecursion (λ b. b ≢ mark) bs
 
 -- lines, each with byte 10 behind it
 abbrev pub ended : List (List ℕ) → List ℕ
@@ -63,11 +63,11 @@ commas_between (f ∷ fs) = commas f fs
 
 -- no line has a byte 10, and the lines with byte 10 behind each are the file, which may lack the last one
 abbrev pub LinesParted : Type 0
-LinesParted = (file : List ℕ) → All (Without 10) (lines file) × ((ended (lines file) ≡ file) ⊎ (ended (lines file) ≡ file ++ 10 ∷ []))
+LinesParted = (file : List ℕ) → AllByRecursion (Without 10) (lines file) × ((ended (lines file) ≡ file) ⊎ (ended (lines file) ≡ file ++ 10 ∷ []))
 
 -- no field has a comma, and the fields with commas between them are the line
 abbrev pub FieldsParted : Type 0
-FieldsParted = (line : List ℕ) → All (Without 44) (fields line) × (commas_between (fields line) ≡ line)
+FieldsParted = (line : List ℕ) → AllByRecursion (Without 44) (fields line) × (commas_between (fields line) ≡ line)
 
 -- a file whose last byte b is not 10 has the same lines with byte 10 behind it
 abbrev pub SameLines : Type 0

@@ -1,6 +1,6 @@
 -- Questions and payments at an agent table, beside those of the agents below.
 use Rattle.std.proofs.Common.{◌≡◌, ℕ, ◌<◌, Bool, true, false, cond, List, [], ◌∷◌, map, length, get_or, Ok, Err, Result, sym, refl, ap, ◌∙◌, inl, inr, arith}
-use Rattle.std.specs.List.{AllByRecursion as All}
+use Rattle.std.specs.List.{AllByRecursion}
 use Rattle.std.proofs.lemmas.Bool.{lt-ltb}
 use Rattle.refusals.specs.declared.Refusal.{Refusal}
 use Rattle.money.specs.Funds.{Funds, Sound, payment, asked, answered, left, known, account, balance}
@@ -14,7 +14,7 @@ abbrev pub of_rows : Funds → List ℕ → Funds
 of_rows f rows = of_agents f (map (agent f) rows)
 
 -- where all rows name participants below, the agents are the rows
-pub agents_named : (f : Funds) (rows : List ℕ) → All (λ row. row < length f.accounts) rows → map (agent f) rows ≡ rows
+pub agents_named : (f : Funds) (rows : List ℕ) → AllByRecursion (λ row. row < length f.accounts) rows → map (agent f) rows ≡ rows
 agents_named f [] a = refl
 agents_named f (row ∷ rows) a =
     ap (λ b. cond b row 0 ∷ map (agent f) rows) (lt-ltb row (length f.accounts) a.0) ∙ ap (λ l. row ∷ l) (agents_named f rows a.1)

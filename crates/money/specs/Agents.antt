@@ -1,6 +1,6 @@
 -- An agent table: for each participant an agent among the participants of the money side below.
 use Rattle.std.specs.Prelude.{◌≡◌, ℕ, ◌<◌, ◌≤◌, cond, List, map, length, Ok, Err, vec_items, Result}
-use Rattle.std.specs.List.{AllByRecursion as All}
+use Rattle.std.specs.List.{AllByRecursion}
 use Rattle.refusals.specs.declared.Refusal.{Refusal}
 use Rattle.refusals.specs.declared.Refusal.TheVariants.{AgentTableLimits}
 use Rattle.money.specs.declared.agents.AgentTable.{AgentTable}
@@ -16,7 +16,7 @@ agent f row = cond (known f row) row 0
 
 -- the rows that may stand on a money side: 2 to 32, each naming a participant below
 abbrev pub Stands : Funds → List ℕ → Type 0
-Stands f rows = (2 ≤ length rows) × (length rows ≤ 32) × All (λ row. row < length f.accounts) rows
+Stands f rows = (2 ≤ length rows) × (length rows ≤ 32) × AllByRecursion (λ row. row < length f.accounts) rows
 
 module _ {M : Type 0} (meaning : M → Funds) where
   -- what a table means

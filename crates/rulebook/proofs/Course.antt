@@ -1,6 +1,6 @@
 -- What every call keeps: each leg is one accepted instruction's, each return has its first leg before it.
 use Rattle.std.proofs.Common.{◌≡◌, ℕ, ◌+◌, ◌≤◌, false, ◌&&◌, ltb, List, [], ◌∷◌, ◌++◌, sym, refl, ap, ◌∙◌, subst, arith}
-use Rattle.std.specs.List.{AllByRecursion as All}
+use Rattle.std.specs.List.{AllByRecursion}
 use Rattle.std.proofs.lemmas.List.{append-nil, append_assoc}
 use Rattle.std.proofs.ByRecursion.{All-append, All-weaker}
 use Rattle.std.proofs.lemmas.Bool.{ne_eqb, and_left}
@@ -26,7 +26,7 @@ use Rattle.rulebook.proofs.Turns.{cancelled_bare, ended_bare, rounds_bare}
 
 -- what is kept, of the instructions, their next number, the journal, and those that left
 pub record Steady (s : Start) (xs : List Instruction) (next : ℕ) (j : Journal) (gone : List Instruction) : Type 0 where
-  pub proper : All (Proper (setting_of s) (xs ++ gone) next) j
+  pub proper : AllByRecursion (Proper (setting_of s) (xs ++ gone) next) j
   pub returns : ReturnsBehind [] j
 
 abbrev pub Kept : Start → Past → Type 0
@@ -47,7 +47,7 @@ plain_proper st ns next (placed d p n y) e = (tt, zeros ns)
 plain_proper st ns next (settled d n l g r m y) e = let z : ◌≡◌ {A = ℕ} 0 1 = cc in absurd (omega arith)
 plain_proper st ns next (redeemed d p i u c y) e = (tt, zeros ns)
 
-plain_behind : (seen vs : Journal) → All (λ v. is_settlement v ≡ false) vs → ReturnsBehind seen vs
+plain_behind : (seen vs : Journal) → AllByRecursion (λ v. is_settlement v ≡ false) vs → ReturnsBehind seen vs
 plain_behind seen [] e = tt
 plain_behind seen (v ∷ vs) e =
     (λ n. omega (arith, plain_times (v ∷ []) (e.0, tt) n return), plain_behind (seen ++ v ∷ []) vs e.1)
@@ -65,7 +65,7 @@ below_next n next = grind arith
 
 module _ (s : Start) (h : Past) (k : Kept s h)
     (known : (n : ℕ) → with_serial h n ≡ one_if (ltb 0 n && ltb n h.book.instructions.next))
-    (apt : All (Apt (today h.book) h.journal) h.book.instructions.standing) where
+    (apt : AllByRecursion (Apt (today h.book) h.journal) h.book.instructions.standing) where
   abbrev sd : Standing
   sd = h.book.standing
 
@@ -83,7 +83,7 @@ module _ (s : Start) (h : Past) (k : Kept s h)
 
   -- other fates, on the same roll, and more in the journal
   turns : (ys : List Instruction) (vs : List Movement) → bares ys ≡ bares xs
-      → All (Proper (setting_of s) (xs ++ gone) next) vs → ReturnsBehind h.journal vs → Steady s ys next (h.journal ++ vs) gone
+      → AllByRecursion (Proper (setting_of s) (xs ++ gone) next) vs → ReturnsBehind h.journal vs → Steady s ys next (h.journal ++ vs) gone
   turns ys vs b p r =
       record {
         proper = All-weaker
@@ -186,7 +186,7 @@ module _ (s : Start) (h : Past) (k : Kept s h)
       }
 
 apt_holds : (s : Start) → Sensible s → (cs : List Call)
-    → All (Apt (today (history s cs).book) (history s cs).journal) (history s cs).book.instructions.standing
+    → AllByRecursion (Apt (today (history s cs).book) (history s cs).journal) (history s cs).book.instructions.standing
 apt_holds s w cs =
     All-weaker _ (Apt (today h.book) h.journal) (λ x p. (due_day s.days h.book.standing x p.0, p.1)) h.book.instructions.standing
     (all_both (Well s.days h.book.standing) (λ x. x.fate ≡ fate.RepoOut → 1 ≤ times h.journal x.serial first) h.book.instructions.standing

@@ -1,6 +1,6 @@
 -- What a call moves: each movement is covered by the amounts that those before it left.
 use Rattle.std.proofs.Common.{◌≡◌, ℕ, ◌+◌, ◌≤◌, true, ◌&&◌, eqb, ltb, List, [], ◌∷◌, ◌++◌, Option, sym, refl, ap, ◌∙◌, arith}
-use Rattle.std.specs.List.{AllByRecursion as All}
+use Rattle.std.specs.List.{AllByRecursion}
 use Rattle.std.proofs.lemmas.Bool.{cond_both, and_parts, eqb-true}
 use Rattle.std.proofs.lemmas.Bool.Decides.{nat_tests}
 use Rattle.rulebook.specs.declared.Side.{Side}
@@ -77,7 +77,7 @@ LegsKeep P st d bs i =
     → P a (leg st d i e)
 
 pub rounds_along : (P : Amounts → Movement → Type 0) (st : Setting) (d : ℕ) (bs : List Blocking) (is : List Instruction) (a : Amounts)
-    → All (LegsKeep P st d bs) is → Along P (rounds st d bs is a).1 a
+    → AllByRecursion (LegsKeep P st d bs) is → Along P (rounds st d bs is a).1 a
 rounds_along P st d bs [] a h = tt
 rounds_along P st d bs (i ∷ is) a h =
     let t = try st d bs a i in
@@ -89,7 +89,7 @@ rounds_along P st d bs (i ∷ is) a h =
 -- P of what each kind of call moves is P along all that it moves
 pub moves_along : (P : Amounts → Movement → Type 0) (st : Setting) (a : Amounts) (k : Book) (c : Call)
     → ((o : Placement) → Passes (place_checks st a k o) → P a (placing st k o))
-    → All (LegsKeep P st (today k) k.blockings.standing) k.instructions.standing
+    → AllByRecursion (LegsKeep P st (today k) k.blockings.standing) k.instructions.standing
     → ((i p : ℕ) → Passes (redeem_checks st a k i p) → P a (redeeming st a k i p))
     → Along P (moves_by (rule st a k c)) a
 moves_along P st a k c placed settled redeemed = rule_both (λ o. Along P (moves_by o) a) st a k c (λ _. tt) (each c)
@@ -123,7 +123,7 @@ leg_covered st d bs i a e n m =
       balance = λ x. affords_le a (leg_payment st i.order e) x m;
     }
 
-all_legs : (st : Setting) (d : ℕ) (bs : List Blocking) (is : List Instruction) → All (LegsKeep (Covered bs) st d bs) is
+all_legs : (st : Setting) (d : ℕ) (bs : List Blocking) (is : List Instruction) → AllByRecursion (LegsKeep (Covered bs) st d bs) is
 all_legs st d bs [] = tt
 all_legs st d bs (i ∷ is) = (leg_covered st d bs i, all_legs st d bs is)
 

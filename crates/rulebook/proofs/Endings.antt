@@ -1,6 +1,6 @@
 -- Each instruction ends once, in time, and what has ended stays so.
 use Rattle.std.proofs.Common.{◌≡◌, ℕ, ◌+◌, ◌<◌, ◌≤◌, Bool, true, false, not, ◌&&◌, eqb, ltb, leb, ◌⊎◌, List, [], ◌∷◌, ◌++◌, Some, None, Option, refl, ap, ◌∙◌, subst, inl, inr, arith}
-use Rattle.std.specs.List.{AllByRecursion as All}
+use Rattle.std.specs.List.{AllByRecursion}
 use Rattle.std.proofs.lemmas.List.{append-nil}
 use Rattle.std.proofs.ByRecursion.{All-append, All-weaker}
 use Rattle.std.proofs.lemmas.Bool.{or_parts, not-true, cases_Bool, not_from_false, and_parts, both_ways, eqb-true, eq-eqb, ltb-true}
@@ -39,8 +39,8 @@ legs_on j zs zs' vs c e n l = omega (arith, c n l, e.legs n l, total_append (is_
 -- the invariant: of the standing, the list, the journal and those that left
 record Ends (s : Start) (sd : Standing) (xs : List Instruction) (j : Journal) (gone : List Instruction) : Type 0 where
   legs : Legs j (xs ++ gone)
-  well : All (Well s.days sd) xs
-  over : All Over gone
+  well : AllByRecursion (Well s.days sd) xs
+  over : AllByRecursion Over gone
 
 abbrev EndsOf : Start → Past → Type 0
 EndsOf s h = Ends s h.book.standing h.book.instructions.standing h.journal h.departed
@@ -125,7 +125,7 @@ module _ (s : Start) (sense : Sensible s) (h : Past) (i : EndsOf s h) where
   sd = h.book.standing
 
   carried : (se : Standing) (ys : List Instruction) (vs : List Movement) (left : List Instruction)
-      → Effect (accepted h) (ys ++ left) vs → All (Well s.days se) ys → All Over left → Goes s h se ys (h.journal ++ vs) left
+      → Effect (accepted h) (ys ++ left) vs → AllByRecursion (Well s.days se) ys → AllByRecursion Over left → Goes s h se ys (h.journal ++ vs) left
   carried se ys vs left e w o = (
     record { legs = legs_on h.journal (accepted h) (ys ++ left) vs i.legs e; well = w; over = o },
     lasts_on h vs (accepted h) (ys ++ left) (λ n f. omega arith) e,
@@ -163,7 +163,7 @@ module _ (s : Start) (sense : Sensible s) (h : Past) (i : EndsOf s h) where
   made_effect =
       round_effect (setting_of s) (today h.book) h.book.blockings.standing xs (reads s.funds h.journal)
 
-  made_well : All (Well s.days sd) made.0
+  made_well : AllByRecursion (Well s.days sd) made.0
   made_well = round_well s.days sd (setting_of s) h.book.blockings.standing xs (reads s.funds h.journal) i.well
 
   close_goes : eqb sd.state on_a_day ≡ true → Goes s h (closed sd) (ended_all sd.day made.0) (h.journal ++ made.1) gone
@@ -235,11 +235,11 @@ one_here a n v e k = grind (arith, nat_tests)
 
 -- what stands on the list is well, and a repo that is out has its first leg in the journal
 pub well_holds : (s : Start) → Sensible s → (cs : List Call)
-    → All (Well s.days (history s cs).book.standing) (history s cs).book.instructions.standing
+    → AllByRecursion (Well s.days (history s cs).book.standing) (history s cs).book.instructions.standing
 well_holds s sense cs = (ends s sense cs).well
 
 pub out_holds : (s : Start) → Sensible s → (cs : List Call)
-    → All (λ x. x.fate ≡ fate.RepoOut → 1 ≤ times (history s cs).journal x.serial first) (history s cs).book.instructions.standing
+    → AllByRecursion (λ x. x.fate ≡ fate.RepoOut → 1 ≤ times (history s cs).journal x.serial first) (history s cs).book.instructions.standing
 out_holds s sense cs =
     All-weaker (Member (accepted h)) (λ x. x.fate ≡ fate.RepoOut → 1 ≤ times h.journal x.serial first)
     (λ x m e. omega (
@@ -259,11 +259,11 @@ pub record EndedPast (s : Start) (h : Past) : Type 0 where
   pub once : (n : ℕ) (e : Leg) → times h.journal n e ≤ 1
   pub remembered : (n : ℕ) → with_serial h n ≡ one_if (ltb 0 n && ltb n h.book.instructions.next)
   pub never_two : (n : ℕ) → endings h n ≤ 1
-  pub decided : All
+  pub decided : AllByRecursion
       (λ i. day_closed h.book.standing i.order.value_date.number ≡ true → endings h (principal i) ≡ 1)
       (accepted h)
   pub return_never_two : (n : ℕ) → return_endings h n ≤ 1
-  pub return_decided : All
+  pub return_decided : AllByRecursion
       (λ i. (d : Date) → i.order.return_date ≡ Some d → day_closed h.book.standing d.number ≡ true
       → times h.journal (principal i) first ≡ 1 → return_endings h (principal i) ≡ 1)
       (accepted h)
@@ -379,7 +379,7 @@ module _ (s : Start) (h : Past) (i : EndsOf s h) (a : Akin h) where
   abbrev zs : List Instruction
   zs = accepted h
 
-  all_punctual : All (λ x. Punctual h.book.standing x.order x.fate) zs
+  all_punctual : AllByRecursion (λ x. Punctual h.book.standing x.order x.fate) zs
   all_punctual =
       All-append (λ (x : Instruction). Punctual h.book.standing x.order x.fate) h.book.instructions.standing h.departed
       (All-weaker (Well s.days h.book.standing) (λ x. Punctual h.book.standing x.order x.fate) (λ x w. w.punctual) h.book.instructions.standing i.well)
@@ -499,7 +499,7 @@ module _ (s : Start) (h : Past) (i : EndsOf s h) (a : Akin h) where
         total_plus (numbered n) (return_ending n) zs,
       )
 
-  members : All Here zs
+  members : AllByRecursion Here zs
   members =
       all_both (Member zs) (Fits (answered h.book.instructions.standing h.departed)) zs
       (member_le zs)

@@ -1,6 +1,6 @@
 -- How a fate moves by one call.
 use Rattle.std.proofs.Common.{◌≡◌, ℕ, ◌+◌, ◌<◌, ◌≤◌, Bool, true, false, cond, not, ◌&&◌, ◌||◌, eqb, List, [], ◌∷◌, ◌++◌, Some, None, Option, sym, refl, ap, ◌∙◌, subst, arith}
-use Rattle.std.specs.List.{AllZip, AllByRecursion as All}
+use Rattle.std.specs.List.{AllZip, AllByRecursion}
 use Rattle.std.proofs.lemmas.List.{append-nil, append_assoc}
 use Rattle.std.proofs.lemmas.List.Elements.{AllZip-push}
 use Rattle.std.proofs.ByRecursion.{All-append, All-weaker}
@@ -56,13 +56,13 @@ each_weaker R S h (x ∷ xs) (y ∷ ys) a = (h x y a.0, each_weaker R S h xs ys 
 
 -- what holds of those that pass a test and of those that do not holds of all
 all_split : {X : Type 0} (P : X → Type 0) (t : X → Bool) (xs : List X)
-    → All P (passing t xs) → All P (passing (λ x. not (t x)) xs) → All P xs
+    → AllByRecursion P (passing t xs) → AllByRecursion P (passing (λ x. not (t x)) xs) → AllByRecursion P xs
 all_split P t [] a b = tt
 all_split {X} P t (x ∷ xs) a b = go (t x) (all_split P t xs) a b
   where
-    go : (v : Bool) → (All P (passing t xs) → All P (passing (λ y. not (t y)) xs) → All P xs)
-        → All P (cond v (x ∷ passing t xs) (passing t xs))
-        → All P (cond (not v) (x ∷ passing (λ y. not (t y)) xs) (passing (λ y. not (t y)) xs)) → All P (x ∷ xs)
+    go : (v : Bool) → (AllByRecursion P (passing t xs) → AllByRecursion P (passing (λ y. not (t y)) xs) → AllByRecursion P xs)
+        → AllByRecursion P (cond v (x ∷ passing t xs) (passing t xs))
+        → AllByRecursion P (cond (not v) (x ∷ passing (λ y. not (t y)) xs) (passing (λ y. not (t y)) xs)) → AllByRecursion P (x ∷ xs)
     go true rest a b = (a.0, rest a.1 b)
     go false rest a b = (b.0, rest a b.1)
 
@@ -234,7 +234,7 @@ settled_end_follows days sd i w first (Some r) h =
 settled_end_follows days sd i w return r h = settled_follows sd.day i return r h
 
 close_follows : (days : List ℕ) (sd : Standing) (st : Setting) (bs : List Blocking) (is : List Instruction) (a : Amounts)
-    → All (Well days sd) is → AllZip Follows is (ended_all sd.day (rounds st sd.day bs is a).0)
+    → AllByRecursion (Well days sd) is → AllZip Follows is (ended_all sd.day (rounds st sd.day bs is a).0)
 close_follows days sd st bs [] a w = tt
 close_follows days sd st bs (i ∷ is) a w = (
   try_both st sd.day bs a i (λ t. Follows i (ended sd.day (tried i t)))
@@ -267,7 +267,7 @@ abbrev finds : List Instruction → Instruction → ℕ
 finds ys i = total (λ j. one_if (follows i j)) ys
 
 abbrev Found : List Instruction → List Instruction → Type 0
-Found xs ys = All (λ i. 1 ≤ finds ys i) xs
+Found xs ys = AllByRecursion (λ i. 1 ≤ finds ys i) xs
 
 found_in : (xs ys zs : List Instruction) → ((f : Instruction → ℕ) → total f ys ≤ total f zs) → Found xs ys → Found xs zs
 found_in xs ys zs l =
@@ -317,7 +317,7 @@ found_arrived : (d : ℕ) (xs : List Instruction) (i : Instruction) → alike i.
 found_arrived d xs i k =
     all_front (λ x. 1 ≤ finds (arrive d xs i) x) xs (i ∷ []) (found_woken (xs ++ i ∷ []) (arrive d xs i) (arrive_wakes d xs i k))
 
-step_found : (s : Start) (h : Past) → All (Well s.days h.book.standing) h.book.instructions.standing
+step_found : (s : Start) (h : Past) → AllByRecursion (Well s.days h.book.standing) h.book.instructions.standing
     → (c : Call) → Found (accepted h) (accepted (step s h c))
 step_found s h w =
     each_call s h (λ _ x _ gone. Found (accepted h) (x.standing ++ gone))

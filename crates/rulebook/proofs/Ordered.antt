@@ -1,6 +1,6 @@
 -- No call changes an order: what holds of every order on the list goes on holding.
 use Rattle.std.proofs.Common.{◌≡◌, not, List, [], ◌∷◌, sym, ◌∙◌, subst}
-use Rattle.std.specs.List.{AllByRecursion as All}
+use Rattle.std.specs.List.{AllByRecursion}
 use Rattle.std.proofs.ByRecursion.{All-push}
 use Rattle.rulebook.specs.declared.Order.{Order}
 use Rattle.rulebook.specs.declared.Call.{Call}
@@ -18,13 +18,13 @@ use Rattle.rulebook.proofs.Turns.{cancelled_bare, ended_bare, rounds_bare}
 
 -- Q of every order on a list
 abbrev pub Orders : (Order → Type 0) → List Instruction → Type 0
-Orders Q is = All (λ i. Q i.order) (bares is)
+Orders Q is = AllByRecursion (λ i. Q i.order) (bares is)
 
 module _ (Q : Order → Type 0) where
   abbrev Of : Instruction → Type 0
   Of i = Q i.order
 
-  pub orders_plain : (is : List Instruction) → Orders Q is → All Of is
+  pub orders_plain : (is : List Instruction) → Orders Q is → AllByRecursion Of is
   orders_plain [] h = tt
   orders_plain (i ∷ is) h = (h.0, orders_plain is h.1)
 
@@ -35,11 +35,11 @@ module _ (Q : Order → Type 0) where
       each_call s h (λ _ is _ _. Orders Q is.standing)
       record {
         plain = λ _ _. a;
-        opening = λ _. subst (All Of) (sym (wake_all_bare (opened s.days h.book.standing).day [] (stayers xs))) (bare_passing Of (λ i. not (leaves xs i)) xs a);
-        instructing = λ o g. subst (All Of) (sym (arrive_bare (today h.book) xs (incoming h.book o))) (All-push Of (bares xs) (bare (incoming h.book o)) a (new o g));
-        cancelling = λ p n. subst (All Of) (sym (cancelled_bare p n xs)) a;
-        round = subst (All Of) (sym tried) a;
-        closing = λ _. subst (All Of) (sym (ended_bare (today h.book) (rounded (setting_of s) (reads s.funds h.journal) h.book).0 ∙ tried)) a;
+        opening = λ _. subst (AllByRecursion Of) (sym (wake_all_bare (opened s.days h.book.standing).day [] (stayers xs))) (bare_passing Of (λ i. not (leaves xs i)) xs a);
+        instructing = λ o g. subst (AllByRecursion Of) (sym (arrive_bare (today h.book) xs (incoming h.book o))) (All-push Of (bares xs) (bare (incoming h.book o)) a (new o g));
+        cancelling = λ p n. subst (AllByRecursion Of) (sym (cancelled_bare p n xs)) a;
+        round = subst (AllByRecursion Of) (sym tried) a;
+        closing = λ _. subst (AllByRecursion Of) (sym (ended_bare (today h.book) (rounded (setting_of s) (reads s.funds h.journal) h.book).0 ∙ tried)) a;
         resting = λ _. a;
       }
       c

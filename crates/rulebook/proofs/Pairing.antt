@@ -1,6 +1,6 @@
 -- What matching does to the sums over instructions.
 use Rattle.std.proofs.Common.{◌≡◌, ℕ, ◌+◌, ◌<◌, ◌≤◌, Bool, true, false, not, ◌&&◌, eqb, List, [], ◌∷◌, ◌++◌, Some, None, Option, sym, refl, ap, ◌∙◌, subst, arith}
-use Rattle.std.specs.List.{AllByRecursion as All}
+use Rattle.std.specs.List.{AllByRecursion}
 use Rattle.std.proofs.lemmas.List.{map-append}
 use Rattle.std.proofs.ByRecursion.{All-push, All-weaker}
 use Rattle.std.proofs.lemmas.Bool.{false≢true, cond_both, and_parts}
@@ -32,9 +32,9 @@ record Paired (o : Order) (xs : List Instruction) (r : List Instruction × Optio
   joined : (n : ℕ) → total (joined_to n) r.0 ≡ total (joined_to n) xs
   led : (n : ℕ) → total (leading n) r.0 ≡ total (leading n) xs + hit r.1 n
   found : (n : ℕ) → hit r.1 n ≤ total (weigh (answering n o)) xs
-  lower : (m n : ℕ) → All (λ s. s < m) (serials xs) → 1 ≤ hit r.1 n → n < m
-  calm : All Calm xs → All Calm r.0
-  fits : (c : ℕ → Order → ℕ) → All (Fits c) xs → All (Fits c) r.0
+  lower : (m n : ℕ) → AllByRecursion (λ s. s < m) (serials xs) → 1 ≤ hit r.1 n → n < m
+  calm : AllByRecursion Calm xs → AllByRecursion Calm r.0
+  fits : (c : ℕ → Order → ℕ) → AllByRecursion (Fits c) xs → AllByRecursion (Fits c) r.0
 
 alone : (o : Order) (xs : List Instruction) → Paired o xs (xs, None)
 alone o xs =
@@ -112,11 +112,11 @@ paired o p (x ∷ xs) =
 pub record Came (xs is ys : List Instruction) : Type 0 where
   pub led : (n : ℕ) → total (joined_to n) ys + (total (leading n) xs + total (leading n) is)
       ≡ (total (joined_to n) xs + total (joined_to n) is) + total (leading n) ys
-  pub calm : All Calm xs → All Calm is → All Calm ys
+  pub calm : AllByRecursion Calm xs → AllByRecursion Calm is → AllByRecursion Calm ys
   pub fits : (c : ℕ → Order → ℕ) (low high : ℕ)
       → ((n : ℕ) (o : Order) → total (weigh (answering n o)) xs + total (weigh (answering n o)) is ≤ c n o)
-      → All (λ s. s ≤ low) (serials xs) → Between low high (serials is)
-      → All (Fits c) xs → All (Fits c) is → All (Fits c) ys
+      → AllByRecursion (λ s. s ≤ low) (serials xs) → Between low high (serials is)
+      → AllByRecursion (Fits c) xs → AllByRecursion (Fits c) is → AllByRecursion (Fits c) ys
 
 -- the roll says the rest: serials, and what reads serial and order alone
 pub came_serials : (xs is ys : List Instruction) → bares ys ≡ bares xs ++ bares is → serials ys ≡ serials xs ++ serials is
@@ -150,10 +150,10 @@ came_more xs i is ys zs roll a b =
           v.1;
     }
   where
-    up_to : (low : ℕ) → All (λ s. s ≤ low) (serials xs) → low < i.serial → All (λ s. s ≤ i.serial) (serials ys)
+    up_to : (low : ℕ) → AllByRecursion (λ s. s ≤ low) (serials xs) → low < i.serial → AllByRecursion (λ s. s ≤ i.serial) (serials ys)
     up_to low h l =
         subst
-        (All (λ s. s ≤ i.serial))
+        (AllByRecursion (λ s. s ≤ i.serial))
         (sym (came_serials xs (i ∷ []) ys roll))
         (All-push (λ s. s ≤ i.serial) (serials xs) i.serial
         (All-weaker (λ s. s ≤ low) (λ s. s ≤ i.serial) (λ s e. omega arith) (serials xs) h)

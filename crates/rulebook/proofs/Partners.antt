@@ -1,6 +1,6 @@
 -- Over every list of calls: each joined instruction's partner, and the one joined to each that was matched.
 use Rattle.std.proofs.Common.{◌≡◌, ℕ, ◌+◌, ◌-◌, ◌<◌, ◌≤◌, Bool, true, not, ◌&&◌, eqb, ltb, List, [], ◌∷◌, ◌++◌, sym, refl, ap, ◌∙◌, subst, arith}
-use Rattle.std.specs.List.{AllZip, AllByRecursion as All}
+use Rattle.std.specs.List.{AllZip, AllByRecursion}
 use Rattle.std.proofs.ByRecursion.{All-append, All-weaker}
 use Rattle.std.proofs.lemmas.Bool.{false≢true, cond_both, eq-eqb}
 use Rattle.std.proofs.lemmas.Bool.Decides.{nat_tests}
@@ -34,9 +34,9 @@ pub record Kin (is gone : List Instruction) (next : ℕ) : Type 0 where
   pub known : (n : ℕ) → over is gone (weigh (named n)) ≡ one_if (ltb 0 n && ltb n next)
   pub rising : Between 0 next (serials is)
   pub led : (n : ℕ) → over is gone (joined_to n) ≡ over is gone (leading n)
-  pub calm : All Calm is
-  pub fits : All (Fits (answered is gone)) is
-  pub fits_gone : All (Fits (answered is gone)) gone
+  pub calm : AllByRecursion Calm is
+  pub fits : AllByRecursion (Fits (answered is gone)) is
+  pub fits_gone : AllByRecursion (Fits (answered is gone)) gone
 
 -- of a book and those that left its list, and of a past
 abbrev pub AkinOf : List Instruction → Book → Type 0
@@ -46,7 +46,7 @@ abbrev pub Akin : Past → Type 0
 Akin h = AkinOf h.departed h.book
 
 -- what fits one count fits a larger one
-fits_more : (c c' : ℕ → Order → ℕ) → ((n : ℕ) (o : Order) → c n o ≤ c' n o) → (is : List Instruction) → All (Fits c) is → All (Fits c') is
+fits_more : (c c' : ℕ → Order → ℕ) → ((n : ℕ) (o : Order) → c n o ≤ c' n o) → (is : List Instruction) → AllByRecursion (Fits c) is → AllByRecursion (Fits c') is
 fits_more c c' l = All-weaker (Fits c) (Fits c') (λ i h n e. ((h n e).0, omega (arith, (h n e).1, l n i.order)))
 
 -- rising numbers: fewer, or one more at the end
@@ -71,7 +71,7 @@ between_below : (low high : ℕ) (ns : List ℕ) → Between low high ns → low
 between_below low high [] b = b
 between_below low high (n ∷ ns) b = omega (arith, b.0, between_below n high ns b.1)
 
-between_all : (low high : ℕ) (ns : List ℕ) → Between low high ns → All (λ s. s < high) ns
+between_all : (low high : ℕ) (ns : List ℕ) → Between low high ns → AllByRecursion (λ s. s < high) ns
 between_all low high [] b = tt
 between_all low high (n ∷ ns) b = (between_below n high ns b.1, between_all n high ns b.1)
 
@@ -180,7 +180,7 @@ opened_kin d is gone next h =
     more : (n : ℕ) (o : Order) → answered is gone n o ≤ answered js left n o
     more n o = omega (arith, came_fixed (answering n o) [] (stayers is) js roll, parts (weigh (answering n o)))
 
-    fits_now : All (Fits (answered js left)) is
+    fits_now : AllByRecursion (Fits (answered js left)) is
     fits_now = fits_more (answered is gone) (answered js left) more is h.fits
 
 step_kin : (s : Start) (h : Past) (c : Call) → Akin h → Akin (step s h c)
@@ -243,7 +243,7 @@ has_split t n is =
     ∙ ap (λ (f : Instruction → ℕ). total f is) (λ k i. one_if_split (has_serial n i) (t i) k)
 
 by_serial : (t : Instruction → Bool) (is : List Instruction) → ((n : ℕ) → total (weigh (named n)) is ≤ 1)
-    → All (λ i. total (has_and t i.serial) is ≡ one_if (t i)) is
+    → AllByRecursion (λ i. total (has_and t i.serial) is ≡ one_if (t i)) is
 by_serial t is once =
     All-weaker
     (Member is)
@@ -267,7 +267,7 @@ once h a n = omega (arith, remembered h a n, one_if_le (ltb 0 n && ltb n h.book.
 
 -- one that was matched has exactly one joined to it, inside one participant none; no other has any
 pub joined_once_holds : (s : Start) → Sensible s → (cs : List Call)
-    → All
+    → AllByRecursion
     (λ i. total (λ x. one_if (joins i.serial x.fate)) (accepted (history s cs))
     ≡ one_if (was_matched i && not (is_inside i.order)))
     (accepted (history s cs))
@@ -293,7 +293,7 @@ joined_once_holds s _ cs =
 
 -- a joined instruction's partner has a lower serial, and the same order but for the sender
 pub partner_holds : (s : Start) → Sensible s → (cs : List Call)
-    → All
+    → AllByRecursion
     (λ i. (n : ℕ) → i.fate ≡ fate.Joined n
     → (n < i.serial)
     × (total (λ x. one_if (has_serial n x && same_order x.order (counter i.order))) (accepted (history s cs)) ≡ 1))

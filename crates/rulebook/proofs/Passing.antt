@@ -1,6 +1,6 @@
 -- Business days pass one by one.
 use Rattle.std.proofs.Common.{◌≡◌, ℕ, suc, ◌+◌, ◌<◌, ◌≤◌, Bool, true, false, cond, ◌&&◌, ◌||◌, eqb, ltb, leb, ◌⊎◌, List, [], ◌∷◌, length, Some, None, Option, refl, ap, ◌∙◌, subst, inl, inr, arith}
-use Rattle.std.specs.List.{AllByRecursion as All}
+use Rattle.std.specs.List.{AllByRecursion}
 use Rattle.std.proofs.lemmas.Bool.{cond_both, cond-true, cond-false, or_left, or_right, eq-eqb}
 use Rattle.std.proofs.lemmas.Bool.Decides.{nat_tests}
 use Rattle.refusals.specs.declared.Refusal.TheVariants.{WrongState}
@@ -18,12 +18,12 @@ use Rattle.rulebook.specs.Laws.{Goes_on, DaysPass}
 use Rattle.rulebook.proofs.Answering.{rule_both}
 
 -- none from n on is found: all are below n
-none_later : (n : ℕ) (bs : List ℕ) → first_from (n + 1) bs ≡ None → All (λ b. b ≤ n) bs
+none_later : (n : ℕ) (bs : List ℕ) → first_from (n + 1) bs ≡ None → AllByRecursion (λ b. b ≤ n) bs
 none_later n [] e = tt
 none_later n (b ∷ bs) e = go (leb (n + 1) b) refl e (none_later n bs)
   where
     go : (t : Bool) → leb (n + 1) b ≡ t → cond t (Some b) (first_from (n + 1) bs) ≡ None
-        → (first_from (n + 1) bs ≡ None → All (λ x. x ≤ n) bs) → (b ≤ n) × All (λ x. x ≤ n) bs
+        → (first_from (n + 1) bs ≡ None → AllByRecursion (λ x. x ≤ n) bs) → (b ≤ n) × AllByRecursion (λ x. x ≤ n) bs
     go true h f rest = let z : ◌≡◌ {A = ℕ} 0 1 = cc in absurd (omega arith)
     go false h f rest = (grind (arith, nat_tests), rest f)
 

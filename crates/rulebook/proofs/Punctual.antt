@@ -1,6 +1,6 @@
 -- No instruction waits past its value date, no repo is out past its return date.
 use Rattle.std.proofs.Common.{◌≡◌, ℕ, ◌+◌, ◌<◌, ◌≤◌, Bool, true, false, cond, not, ◌&&◌, ◌||◌, eqb, leb, List, [], ◌∷◌, ◌++◌, Some, None, Option, refl, ap, ⊎_elim, arith}
-use Rattle.std.specs.List.{AllByRecursion as All}
+use Rattle.std.specs.List.{AllByRecursion}
 use Rattle.std.proofs.ByRecursion.{All-push, All-weaker, All-map}
 use Rattle.std.proofs.lemmas.Bool.{or_left, or_parts, cond_both, and_parts, and_right, or_cases, or_from, or_right, not-true, eqb-true, leb-false, le-ltb, lt-leb, both_ways}
 use Rattle.std.proofs.lemmas.Bool.Decides.{nat_tests}
@@ -164,7 +164,7 @@ arrived_quieter f g h k = record { waiting = λ e. grind arith; out = λ e. grin
 waiting_open : (g : Fate) → is_waiting g ≡ true → is_leg_refused g ≡ false
 waiting_open g w = grind arith
 
-pair_well : (days : List ℕ) (sd : Standing) (o : Order) (xs : List Instruction) → All (Well days sd) xs → All (Well days sd) (pair_up o xs).0
+pair_well : (days : List ℕ) (sd : Standing) (o : Order) (xs : List Instruction) → AllByRecursion (Well days sd) xs → AllByRecursion (Well days sd) (pair_up o xs).0
 pair_well days sd o [] a = tt
 pair_well days sd o (x ∷ xs) a =
     cond_both
@@ -172,7 +172,7 @@ pair_well days sd o (x ∷ xs) a =
     (is_partner o x)
     (turned x fate.Matched None ∷ xs, Some x.serial)
     (x ∷ (pair_up o xs).0, (pair_up o xs).1)
-    (λ r. All (Well days sd) r.0)
+    (λ r. AllByRecursion (Well days sd) r.0)
     (λ e. let p = and_parts (alike x.fate fate.Unmatched) (same_order x.order (counter o)) e in (
       record {
         fit = a.0.fit;
@@ -186,9 +186,9 @@ pair_well days sd o (x ∷ xs) a =
     (λ _. (a.0, pair_well days sd o xs a.1))
 
 pub arrive_well : (days : List ℕ) (sd : Standing) (xs : List Instruction) (i : Instruction) → alike i.fate fate.Kept ≡ true
-    → All (Well days sd) xs → Comes days sd i → All (Well days sd) (arrive sd.day xs i)
+    → AllByRecursion (Well days sd) xs → Comes days sd i → AllByRecursion (Well days sd) (arrive sd.day xs i)
 arrive_well days sd xs i k a h =
-    arrive_both sd.day xs i (All (Well days sd))
+    arrive_both sd.day xs i (AllByRecursion (Well days sd))
     (λ l _. All-push (Well days sd) xs (turned i fate.Matched None) a (as_one fate.Matched refl (λ e. never e) (λ _. l)))
     (λ l _. by_found (pair_up i.order xs).0 (pair_up i.order xs).1 (pair_well days sd i.order xs a) l)
     (λ l. All-push (Well days sd) xs (turned i fate.Kept None) a (as_one fate.Kept refl (λ _. l) (λ e. never e)))
@@ -204,7 +204,7 @@ arrive_well days sd xs i k a h =
           refused = λ e. absurd (both_ways (is_leg_refused g) (waiting_open g w) e);
         }
 
-    by_found : (ys : List Instruction) (r : Option ℕ) → All (Well days sd) ys → value i.order ≤ sd.day → All (Well days sd) (ys ++ met i r ∷ [])
+    by_found : (ys : List Instruction) (r : Option ℕ) → AllByRecursion (Well days sd) ys → value i.order ≤ sd.day → AllByRecursion (Well days sd) (ys ++ met i r ∷ [])
     by_found ys None b l = All-push (Well days sd) ys (turned i fate.Unmatched None) b (as_one fate.Unmatched refl (λ e. never e) (λ _. l))
     by_found ys (Some s) b l =
         All-push (Well days sd) ys (turned i (fate.Joined s) None) b
@@ -217,13 +217,13 @@ arrive_well days sd xs i k a h =
         }
 
 wake_well : (days : List ℕ) (sd : Standing) (xs : List Instruction) (i : Instruction)
-    → All (Well days sd) xs → Comes days sd i → All (Well days sd) (wake sd.day xs i)
+    → AllByRecursion (Well days sd) xs → Comes days sd i → AllByRecursion (Well days sd) (wake sd.day xs i)
 wake_well days sd xs i a h =
     cond_both
     (alike i.fate fate.Kept)
     (arrive sd.day xs i)
     (xs ++ i ∷ [])
-    (All (Well days sd))
+    (AllByRecursion (Well days sd))
     (λ e. arrive_well days sd xs i e a h)
     (λ e. All-push (Well days sd) xs i a record {
       fit = h.0;
@@ -234,13 +234,13 @@ wake_well days sd xs i a h =
     })
 
 pub wake_all_well : (days : List ℕ) (sd : Standing) (xs is : List Instruction)
-    → All (Well days sd) xs → All (Comes days sd) is → All (Well days sd) (wake_all sd.day xs is)
+    → AllByRecursion (Well days sd) xs → AllByRecursion (Comes days sd) is → AllByRecursion (Well days sd) (wake_all sd.day xs is)
 wake_all_well days sd xs [] a b = a
 wake_all_well days sd xs (i ∷ is) a b =
     wake_all_well days sd (wake sd.day xs i) is (wake_well days sd xs i a b.0) b.1
 
 -- cancelled ones wait no more
-pub cancel_well : (days : List ℕ) (sd : Standing) (p n : ℕ) (xs : List Instruction) → All (Well days sd) xs → All (Well days sd) (cancelled_in p n xs)
+pub cancel_well : (days : List ℕ) (sd : Standing) (p n : ℕ) (xs : List Instruction) → AllByRecursion (Well days sd) xs → AllByRecursion (Well days sd) (cancelled_in p n xs)
 cancel_well days sd p n xs a =
     All-map (Well days sd) (λ i. cond (may_cancel p n i) (turned i fate.Cancelled i.cause) i) xs (All-weaker (Well days sd) (λ i. Well days sd (cond (may_cancel p n i) (turned i fate.Cancelled i.cause) i)) one xs a)
   where
@@ -285,7 +285,7 @@ settled_well days sd i return r q e h =
     record { fit = h.fit; punctual = done_with sd i.order fate.RepoBack refl refl refl; patient = λ x. never x; arrived = λ x. never x; refused = λ x. never x }
 
 pub round_well : (days : List ℕ) (sd : Standing) (st : Setting) (bs : List Blocking) (is : List Instruction) (a : Amounts)
-    → All (Well days sd) is → All (Well days sd) (rounds st sd.day bs is a).0
+    → AllByRecursion (Well days sd) is → AllByRecursion (Well days sd) (rounds st sd.day bs is a).0
 round_well days sd st bs [] a w = tt
 round_well days sd st bs (i ∷ is) a w = (
   try_both st sd.day bs a i (λ t. Well days sd (tried i t))
@@ -336,8 +336,8 @@ end_one days sd s i h =
     after_day : (v : ℕ) → day_closed sd v ≡ false → eqb v sd.day ≡ false → leb v sd.day ≡ false
     after_day v x y = grind (arith, nat_tests)
 
-pub end_well : (days : List ℕ) (sd : Standing) → eqb sd.state on_a_day ≡ true → (is : List Instruction) → All (Well days sd) is
-    → All (Well days (closed sd)) (ended_all sd.day is)
+pub end_well : (days : List ℕ) (sd : Standing) → eqb sd.state on_a_day ≡ true → (is : List Instruction) → AllByRecursion (Well days sd) is
+    → AllByRecursion (Well days (closed sd)) (ended_all sd.day is)
 end_well days sd s is a =
     All-map (Well days (closed sd)) (ended sd.day) is (All-weaker (Well days sd) (λ i. Well days (closed sd) (ended sd.day i)) (end_one days sd s) is a)
 
@@ -390,7 +390,7 @@ leaver_past xs i h = go i.fate h
     go fate.ReturnRefused e = refl
     go fate.Cancelled e = refl
 
-pub leavers_over : (days : List ℕ) (sd : Standing) (xs ys : List Instruction) → All (Well days sd) ys → All Over (passing (leaves xs) ys)
+pub leavers_over : (days : List ℕ) (sd : Standing) (xs ys : List Instruction) → AllByRecursion (Well days sd) ys → AllByRecursion Over (passing (leaves xs) ys)
 leavers_over days sd xs ys a =
     All-weaker (λ i. Well days sd i × (leaves xs i ≡ true)) Over
     (λ i h se.

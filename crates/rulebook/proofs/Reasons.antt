@@ -1,6 +1,6 @@
 -- Which causes an instruction has by its fate.
 use Rattle.std.proofs.Common.{◌≡◌, ℕ, true, false, cond, not, ◌&&◌, ◌||◌, List, [], ◌∷◌, ◌++◌, Some, None, Option, sym, refl, ap, ◌∙◌, subst, arith}
-use Rattle.std.specs.List.{AllByRecursion as All}
+use Rattle.std.specs.List.{AllByRecursion}
 use Rattle.std.proofs.ByRecursion.{All-append, All-push, All-map, All-weaker}
 use Rattle.std.proofs.lemmas.Bool.{cond_both, both_ways}
 use Rattle.refusals.specs.declared.Refusal.{Refusal}
@@ -28,7 +28,7 @@ abbrev Suits : Instruction → Type 0
 Suits i = cause_suits i.fate i.cause ≡ true
 
 -- arrivals have no cause
-pair_suits : (o : Order) (xs : List Instruction) → All Suits xs → All Suits (pair_up o xs).0
+pair_suits : (o : Order) (xs : List Instruction) → AllByRecursion Suits xs → AllByRecursion Suits (pair_up o xs).0
 pair_suits o [] h = tt
 pair_suits o (x ∷ xs) h =
     cond_both
@@ -36,7 +36,7 @@ pair_suits o (x ∷ xs) h =
     (is_partner o x)
     (turned x fate.Matched None ∷ xs, Some x.serial)
     (x ∷ (pair_up o xs).0, (pair_up o xs).1)
-    (λ r. All Suits r.0)
+    (λ r. AllByRecursion Suits r.0)
     (λ _. (refl, h.1))
     (λ _. (h.0, pair_suits o xs h.1))
 
@@ -44,21 +44,21 @@ met_suits : (i : Instruction) (r : Option ℕ) → Suits (met i r)
 met_suits i None = refl
 met_suits i (Some n) = refl
 
-arrive_suits : (d : ℕ) (xs : List Instruction) (i : Instruction) → All Suits xs → All Suits (arrive d xs i)
+arrive_suits : (d : ℕ) (xs : List Instruction) (i : Instruction) → AllByRecursion Suits xs → AllByRecursion Suits (arrive d xs i)
 arrive_suits d xs i h =
-    arrive_both d xs i (All Suits)
+    arrive_both d xs i (AllByRecursion Suits)
     (λ _ _. All-push Suits xs (turned i fate.Matched None) h refl)
     (λ _ _. All-push Suits (pair_up i.order xs).0 (met i (pair_up i.order xs).1) (pair_suits i.order xs h) (met_suits i (pair_up i.order xs).1))
     (λ _. All-push Suits xs (turned i fate.Kept None) h refl)
 
-wake_suits : (d : ℕ) (xs is : List Instruction) → All Suits xs → All Suits is → All Suits (wake_all d xs is)
+wake_suits : (d : ℕ) (xs is : List Instruction) → AllByRecursion Suits xs → AllByRecursion Suits is → AllByRecursion Suits (wake_all d xs is)
 wake_suits d xs [] h k = h
 wake_suits d xs (i ∷ is) h k =
     wake_suits d (wake d xs i) is
-    (cond_both (alike i.fate fate.Kept) (arrive d xs i) (xs ++ i ∷ []) (All Suits) (λ _. arrive_suits d xs i h) (λ _. All-push Suits xs i h k.0))
+    (cond_both (alike i.fate fate.Kept) (arrive d xs i) (xs ++ i ∷ []) (AllByRecursion Suits) (λ _. arrive_suits d xs i h) (λ _. All-push Suits xs i h k.0))
     k.1
 
-cancel_suits : (p n : ℕ) (xs : List Instruction) → All Suits xs → All Suits (cancelled_in p n xs)
+cancel_suits : (p n : ℕ) (xs : List Instruction) → AllByRecursion Suits xs → AllByRecursion Suits (cancelled_in p n xs)
 cancel_suits p n xs h =
     All-map Suits (λ i. cond (may_cancel p n i) (turned i fate.Cancelled i.cause) i) xs
     (All-weaker Suits (λ i. Suits (cond (may_cancel p n i) (turned i fate.Cancelled i.cause) i))
@@ -83,7 +83,7 @@ settled_suits d i first None h w = sym (ap (λ f. cause_suits f i.cause) h) ∙ 
 settled_suits d i first (Some r) h w = refl
 settled_suits d i return r h w = sym (ap (λ f. cause_suits f i.cause) h.0) ∙ w
 
-round_suits : (st : Setting) (d : ℕ) (bs : List Blocking) (is : List Instruction) (a : Amounts) → All Suits is → All Suits (rounds st d bs is a).0
+round_suits : (st : Setting) (d : ℕ) (bs : List Blocking) (is : List Instruction) (a : Amounts) → AllByRecursion Suits is → AllByRecursion Suits (rounds st d bs is a).0
 round_suits st d bs [] a h = tt
 round_suits st d bs (i ∷ is) a h = (
   try_both st d bs a i (λ t. Suits (tried i t))
@@ -119,7 +119,7 @@ settled_end_suits days sd i w first (Some r) h k = subst Suits (sym (out_stays d
 settled_end_suits days sd i w return r h k = settled_suits sd.day i return r h k
 
 close_suits : (days : List ℕ) (sd : Standing) (st : Setting) (bs : List Blocking) (is : List Instruction) (a : Amounts)
-    → All (Well days sd) is → All Suits is → All Suits (ended_all sd.day (rounds st sd.day bs is a).0)
+    → AllByRecursion (Well days sd) is → AllByRecursion Suits is → AllByRecursion Suits (ended_all sd.day (rounds st sd.day bs is a).0)
 close_suits days sd st bs [] a w h = tt
 close_suits days sd st bs (i ∷ is) a w h = (
   try_both st sd.day bs a i (λ t. Suits (ended sd.day (tried i t)))
@@ -132,9 +132,9 @@ close_suits days sd st bs (i ∷ is) a w h = (
 
 -- on the list, and among those that left it
 abbrev Suiting : List Instruction → List Instruction → Type 0
-Suiting xs gone = All Suits xs × All Suits gone
+Suiting xs gone = AllByRecursion Suits xs × AllByRecursion Suits gone
 
-step_suits : (s : Start) (h : Past) → All (Well s.days h.book.standing) h.book.instructions.standing
+step_suits : (s : Start) (h : Past) → AllByRecursion (Well s.days h.book.standing) h.book.instructions.standing
     → Suiting h.book.instructions.standing h.departed → (c : Call)
     → Suiting (step s h c).book.instructions.standing (step s h c).departed
 step_suits s h w a =

@@ -1,6 +1,6 @@
 -- Serials and orders never change, and stand in the order in which they came.
 use Rattle.std.proofs.Common.{◌≡◌, ℕ, Bool, List, [], ◌∷◌, ◌++◌, map, Some, None, Option, sym, refl, ap, ◌∙◌, arith}
-use Rattle.std.specs.List.{AllByRecursion as All}
+use Rattle.std.specs.List.{AllByRecursion}
 use Rattle.std.proofs.lemmas.List.{append-nil, append_assoc, map_push}
 use Rattle.std.proofs.lemmas.Bool.{cond_both}
 use Rattle.calendar.specs.Days.{passing}
@@ -53,10 +53,10 @@ wake_all_bare d xs [] = sym (append-nil (bares xs))
 wake_all_bare d xs (i ∷ is) =
     wake_all_bare d (wake d xs i) is ∙ ap (λ l. l ++ bares is) (wake_bare d xs i) ∙ append_assoc (bares xs) (bare i ∷ []) (bares is)
 
-pub bare_passing : (P : Instruction → Type 0) (t : Instruction → Bool) (xs : List Instruction) → All P (bares xs) → All P (bares (passing t xs))
+pub bare_passing : (P : Instruction → Type 0) (t : Instruction → Bool) (xs : List Instruction) → AllByRecursion P (bares xs) → AllByRecursion P (bares (passing t xs))
 bare_passing P t [] h = tt
 bare_passing P t (x ∷ xs) h =
-    cond_both (t x) (x ∷ passing t xs) (passing t xs) (λ l. All P (bares l)) (λ _. (h.0, bare_passing P t xs h.1)) (λ _. bare_passing P t xs h.1)
+    cond_both (t x) (x ∷ passing t xs) (passing t xs) (λ l. AllByRecursion P (bares l)) (λ _. (h.0, bare_passing P t xs h.1)) (λ _. bare_passing P t xs h.1)
 
 -- a measure that reads serial and order alone
 pub total_bare : (f : Instruction → ℕ) → ((i : Instruction) → f i ≡ f (bare i)) → (xs : List Instruction) → total f xs ≡ total f (bares xs)

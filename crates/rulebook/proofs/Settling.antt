@@ -1,6 +1,6 @@
 -- A round: every leg that settles is its instruction's, on its date, and a return has its first leg before it.
 use Rattle.std.proofs.Common.{◌≡◌, ℕ, ◌+◌, ◌<◌, ◌≤◌, Bool, true, false, ◌&&◌, eqb, ltb, List, [], ◌∷◌, ◌++◌, Some, None, Option, sym, refl, ap, subst, arith}
-use Rattle.std.specs.List.{AllByRecursion as All}
+use Rattle.std.specs.List.{AllByRecursion}
 use Rattle.std.proofs.ByRecursion.{All-weaker}
 use Rattle.std.proofs.lemmas.Bool.{and_from, eq-eqb, eqb-true}
 use Rattle.std.proofs.lemmas.Bool.Decides.{nat_tests}
@@ -105,7 +105,7 @@ ready_date d j i return h r = day_true d i.order.return_date r.1
 
 -- what a round moves after the journal j
 pub record Rounded (st : Setting) (ns : List Instruction) (next : ℕ) (j : Journal) (vs : List Movement) : Type 0 where
-  pub proper : All (Proper st ns next) vs
+  pub proper : AllByRecursion (Proper st ns next) vs
   pub returns : ReturnsBehind j vs
 
 module _ (st : Setting) (d : ℕ) (bs : List Blocking) (ns : List Instruction) (next : ℕ)
@@ -120,8 +120,8 @@ module _ (st : Setting) (d : ℕ) (bs : List Blocking) (ns : List Instruction) (
       go true q o = let w : 1 ≤ times j n first = subst (λ (m : ℕ). 1 ≤ times j m first) (eqb-true i.serial n q) o in omega arith
       go false q o = omega arith
 
-  module _ (i : Instruction) (is : List Instruction) (j : Journal) (a : Amounts) (w : All (Apt d j) (i ∷ is)) (m : Member ns i)
-      (ih : (j : Journal) (a : Amounts) → All (Apt d j) is → Rounded st ns next j (rounds st d bs is a).1) where
+  module _ (i : Instruction) (is : List Instruction) (j : Journal) (a : Amounts) (w : AllByRecursion (Apt d j) (i ∷ is)) (m : Member ns i)
+      (ih : (j : Journal) (a : Amounts) → AllByRecursion (Apt d j) is → Rounded st ns next j (rounds st d bs is a).1) where
     went : (e : Leg) → Ready d i e → Rounded st ns next j (leg st d i e ∷ (rounds st d bs is (after (leg st d i e) a)).1)
     went e r =
         let v : Movement = leg st d i e in
@@ -140,7 +140,7 @@ module _ (st : Setting) (d : ℕ) (bs : List Blocking) (ns : List Instruction) (
         (λ _ _ _ _. ih j a w.1)
         (λ e r _ _. went e r)
 
-  pub rounded : (is : List Instruction) (j : Journal) (a : Amounts) → All (Apt d j) is → All (Member ns) is
+  pub rounded : (is : List Instruction) (j : Journal) (a : Amounts) → AllByRecursion (Apt d j) is → AllByRecursion (Member ns) is
       → Rounded st ns next j (rounds st d bs is a).1
   rounded [] j a w m = record { proper = tt; returns = tt }
   rounded (i ∷ is) j a w m = one_more i is j a w m.0 (λ j' a' w'. rounded is j' a' w' m.1)

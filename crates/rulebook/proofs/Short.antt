@@ -1,6 +1,6 @@
 -- What closing refuses was short at its last try, when the legs of lower serials had settled.
 use Rattle.std.proofs.Common.{◌≡◌, ℕ, ◌<◌, ◌≤◌, Bool, true, false, cond, ◌&&◌, eqb, List, [], ◌∷◌, ◌++◌, Some, None, Ok, Err, Option, sym, refl, ap, ◌∙◌, subst, inl, inr, arith}
-use Rattle.std.specs.List.{AllByRecursion as All}
+use Rattle.std.specs.List.{AllByRecursion}
 use Rattle.std.proofs.lemmas.List.{append-nil, append_assoc}
 use Rattle.std.proofs.ByRecursion.{All-append, All-weaker}
 use Rattle.std.proofs.lemmas.Bool.{cond_both, cond-false, and_parts, both_ways, or_left, eqb-true, ne_eqb}
@@ -91,13 +91,13 @@ record Last (s : Start) (bs : List Blocking) (low : ℕ) (j : Journal) (vs : Lis
   rest : Journal
   split : vs ≡ before ++ rest
   above : low < i.serial
-  lower : All (λ v. leg_serial v < i.serial) before
-  higher : All (λ v. i.serial < leg_serial v) rest
+  lower : AllByRecursion (λ v. leg_serial v < i.serial) before
+  higher : AllByRecursion (λ v. i.serial < leg_serial v) rest
   short : Short s (reads s.funds (j ++ before)) bs i
 
 -- the legs that a round settles have serials of its list
 rounds_above : (st : Setting) (d : ℕ) (bs : List Blocking) (low : ℕ) (is : List Instruction) (high : ℕ) (a : Amounts) → Between low high (serials is)
-    → All (λ v. low < leg_serial v) (rounds st d bs is a).1
+    → AllByRecursion (λ v. low < leg_serial v) (rounds st d bs is a).1
 rounds_above st d bs low [] high a c = tt
 rounds_above st d bs low (i ∷ is) high a c =
     All-append
@@ -112,7 +112,7 @@ rounds_above st d bs low (i ∷ is) high a c =
     (rounds st d bs is (afters (try_moves st d i (try st d bs a i)) a)).1
     (rounds_above st d bs i.serial is high (afters (try_moves st d i (try st d bs a i)) a) c.1))
   where
-    go : (t : Try) → All (λ v. low < leg_serial v) (try_moves st d i t)
+    go : (t : Try) → AllByRecursion (λ v. low < leg_serial v) (try_moves st d i t)
     go idle = tt
     go (waits r) = tt
     go (settles e) = (c.0, tt)
@@ -122,7 +122,7 @@ module _ (s : Start) (sd : Standing) (on : sd.state ≡ on_a_day) (bs : List Blo
   Ends low j vs y = is_short y ≡ true → Last s bs low j vs y
 
   waited_last : (low : ℕ) (j : Journal) (a : Amounts) (i : Instruction) (e : Leg) (c : Refusal) (vs : List Movement)
-      → Ready sd.day i e → Shown s.funds a j → low < i.serial → All (λ v. i.serial < leg_serial v) vs
+      → Ready sd.day i e → Shown s.funds a j → low < i.serial → AllByRecursion (λ v. i.serial < leg_serial v) vs
       → Short s a bs (turned i (refused_as e) (Some c))
       → Last s bs low j vs (ended sd.day (turned i i.fate (Some c)))
   waited_last low j a i e c vs r h l g sh =
@@ -138,8 +138,8 @@ module _ (s : Start) (sd : Standing) (on : sd.state ≡ on_a_day) (bs : List Blo
       }
 
   -- behind the first instruction's legs
-  behind : (low n : ℕ) (j m vs : Journal) (ys : List Instruction) → low < n → All (λ v. leg_serial v ≡ n) m
-      → All (Ends n (j ++ m) vs) ys → All (Ends low j (m ++ vs)) ys
+  behind : (low n : ℕ) (j m vs : Journal) (ys : List Instruction) → low < n → AllByRecursion (λ v. leg_serial v ≡ n) m
+      → AllByRecursion (Ends n (j ++ m) vs) ys → AllByRecursion (Ends low j (m ++ vs)) ys
   behind low n j m vs ys l q h =
       All-weaker
       (Ends n (j ++ m) vs)
@@ -160,17 +160,17 @@ module _ (s : Start) (sd : Standing) (on : sd.state ≡ on_a_day) (bs : List Blo
   module _ (i : Instruction) (is : List Instruction) (low high : ℕ) (j : Journal) (a : Amounts) (c : Between low high (serials (i ∷ is))) (h : Shown s.funds a j)
       (w : Well s.days sd i)
       (ih : (j : Journal) (a : Amounts) → Shown s.funds a j
-      → All (Ends i.serial j (rounds (setting_of s) sd.day bs is a).1) (ended_all sd.day (rounds (setting_of s) sd.day bs is a).0)) where
+      → AllByRecursion (Ends i.serial j (rounds (setting_of s) sd.day bs is a).1) (ended_all sd.day (rounds (setting_of s) sd.day bs is a).0)) where
     abbrev moved : Try → List Movement
     moved t = try_moves (setting_of s) sd.day i t
 
-    others : (m : List Movement) → All (λ v. leg_serial v ≡ i.serial) m → Shown s.funds (afters m a) (j ++ m)
-        → All (Ends low j (m ++ (rounds (setting_of s) sd.day bs is (afters m a)).1)) (ended_all sd.day (rounds (setting_of s) sd.day bs is (afters m a)).0)
+    others : (m : List Movement) → AllByRecursion (λ v. leg_serial v ≡ i.serial) m → Shown s.funds (afters m a) (j ++ m)
+        → AllByRecursion (Ends low j (m ++ (rounds (setting_of s) sd.day bs is (afters m a)).1)) (ended_all sd.day (rounds (setting_of s) sd.day bs is (afters m a)).0)
     others m q g =
         behind low i.serial j m _ _ c.0 q
         (ih (j ++ m) (afters m a) g)
 
-    still : All (Ends low j (rounds (setting_of s) sd.day bs is a).1) (ended_all sd.day (rounds (setting_of s) sd.day bs is a).0)
+    still : AllByRecursion (Ends low j (rounds (setting_of s) sd.day bs is a).1) (ended_all sd.day (rounds (setting_of s) sd.day bs is a).0)
     still = others [] tt (subst (λ (l : Journal). Shown s.funds a l) (sym (append-nil j)) h)
 
     refused_now : (e : Leg) (r : Refusal) → Ready sd.day i e → Short s a bs (turned i (refused_as e) (Some r))
@@ -178,7 +178,7 @@ module _ (s : Start) (sd : Standing) (on : sd.state ≡ on_a_day) (bs : List Blo
     refused_now e r y sh =
         waited_last low j a i e r _ y h c.0 (rounds_above (setting_of s) sd.day bs i.serial is high a c.1) sh
 
-    one_last : All (Ends low j (rounds (setting_of s) sd.day bs (i ∷ is) a).1) (ended_all sd.day (rounds (setting_of s) sd.day bs (i ∷ is) a).0)
+    one_last : AllByRecursion (Ends low j (rounds (setting_of s) sd.day bs (i ∷ is) a).1) (ended_all sd.day (rounds (setting_of s) sd.day bs (i ∷ is) a).0)
     one_last =
         try_both
         (setting_of s)
@@ -186,7 +186,7 @@ module _ (s : Start) (sd : Standing) (on : sd.state ≡ on_a_day) (bs : List Blo
         bs
         a
         i
-        (λ t. All
+        (λ t. AllByRecursion
         (Ends low j (moved t ++ (rounds (setting_of s) sd.day bs is (afters (moved t) a)).1))
         (ended sd.day (tried i t) ∷ ended_all sd.day (rounds (setting_of s) sd.day bs is (afters (moved t) a)).0))
         (λ m o. (λ q. absurd (untried sd.day i (λ z. omega (arith, on, w.refused z)) m o q), still))
@@ -212,8 +212,8 @@ module _ (s : Start) (sd : Standing) (on : sd.state ≡ on_a_day) (bs : List Blo
               (shown_more s.funds a j bs (leg (setting_of s) sd.day i e) h (leg_covered (setting_of s) sd.day bs i a e n p)),
         ))
 
-  last : (is : List Instruction) (low high : ℕ) (j : Journal) (a : Amounts) → Between low high (serials is) → Shown s.funds a j → All (Well s.days sd) is
-      → All (Ends low j (rounds (setting_of s) sd.day bs is a).1) (ended_all sd.day (rounds (setting_of s) sd.day bs is a).0)
+  last : (is : List Instruction) (low high : ℕ) (j : Journal) (a : Amounts) → Between low high (serials is) → Shown s.funds a j → AllByRecursion (Well s.days sd) is
+      → AllByRecursion (Ends low j (rounds (setting_of s) sd.day bs is a).1) (ended_all sd.day (rounds (setting_of s) sd.day bs is a).0)
   last [] low high j a c h w = tt
   last (i ∷ is) low high j a c h w =
       one_last i is low high j a c h w.0 (λ j' a' h'. last is i.serial high j' a' c.1 h' w.1)
@@ -231,7 +231,7 @@ closes s h e =
 pub refused_short_holds : (s : Start) → Sensible s → (cs : List Call) → RefusedShort s (history s cs)
 refused_short_holds s w cs e =
     subst
-    (λ (o : Outcome). All (λ i. is_short i ≡ true → TriedLast s h (past_by h o) i) (past_by h o).book.instructions.standing)
+    (λ (o : Outcome). AllByRecursion (λ i. is_short i ≡ true → TriedLast s h (past_by h o) i) (past_by h o).book.instructions.standing)
     (sym (closes s h e))
     (All-weaker
     (Ends s h.book.standing (eqb-true h.book.standing.state on_a_day e) h.book.blockings.standing 0 h.journal vs)

@@ -1,6 +1,6 @@
 -- One call, and every list of calls: what each kind of call makes of the instructions and the journal.
 use Rattle.std.proofs.Common.{◌≡◌, ℕ, Bool, true, false, cond, ◌||◌, eqb, List, [], ◌∷◌, ◌++◌, Ok, Err, sym, refl, subst, arith}
-use Rattle.std.specs.List.{AllByRecursion as All}
+use Rattle.std.specs.List.{AllByRecursion}
 use Rattle.std.proofs.lemmas.List.{append-nil, append_assoc}
 use Rattle.std.proofs.lemmas.Bool.{cond_both}
 use Rattle.refusals.specs.declared.Refusal.TheVariants.{WrongState}
@@ -31,7 +31,7 @@ module _ (s : Start) (h : Past) (P : Standing → Numbered Instruction → Journ
 
   -- P of what each kind of call leaves: most leave the list and move no leg
   pub record Ways : Type 0 where
-    pub plain : (vs : List Movement) → All (λ v. is_settlement v ≡ false) vs
+    pub plain : (vs : List Movement) → AllByRecursion (λ v. is_settlement v ≡ false) vs
         → P k.standing k.instructions (h.journal ++ vs) h.departed
     pub opening : is_shut k ≡ true
         → P (opened s.days k.standing) (standing_now k.instructions (wake_all (opened s.days k.standing).day [] (stayers xs)))
@@ -82,7 +82,7 @@ module _ (s : Start) (h : Past) (P : Standing → Numbered Instruction → Journ
   each_call w (call.AskingHolding p i) = by_checks w (call.AskingHolding p i) (λ _. w.plain [] tt)
 
 -- movements that are no legs
-pub plain_times : (vs : List Movement) → All (λ v. is_settlement v ≡ false) vs → (n : ℕ) (e : Leg) → times vs n e ≡ 0
+pub plain_times : (vs : List Movement) → AllByRecursion (λ v. is_settlement v ≡ false) vs → (n : ℕ) (e : Leg) → times vs n e ≡ 0
 plain_times [] a n e = refl
 plain_times (v ∷ vs) a n e = omega (arith, one v a.0, plain_times vs a.1 n e)
   where

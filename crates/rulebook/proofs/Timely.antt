@@ -1,6 +1,6 @@
 -- What moves before an issue's maturity, and what from then on.
 use Rattle.std.proofs.Common.{◌≡◌, ℕ, ◌+◌, ◌<◌, ◌≤◌, Bool, true, false, cond, not, ◌&&◌, eqb, ltb, leb, List, [], ◌∷◌, ◌++◌, map, is_some, Some, None, Option, sym, refl, ap, ◌∙◌, subst, arith}
-use Rattle.std.specs.List.{AllByRecursion as All}
+use Rattle.std.specs.List.{AllByRecursion}
 use Rattle.std.proofs.lemmas.List.{map_push, get_or-set_other}
 use Rattle.std.proofs.ByRecursion.{All-append, All-weaker}
 use Rattle.std.proofs.lemmas.Bool.{cond_both, and_parts, both_ways, eqb-true, eqb-false, ltb-true, leb-true}
@@ -30,7 +30,7 @@ abbrev Before : Book → Order → Type 0
 Before k o = (e : Leg) → leg_date o e < matures k o.issue
 
 abbrev AllBefore : Book → List Instruction → Type 0
-AllBefore k xs = All (λ i. Before k i.order) xs
+AllBefore k xs = AllByRecursion (λ i. Before k i.order) xs
 
 -- the law of placements and redemptions alone
 abbrev Entry : Book → Movement → Type 0
@@ -83,17 +83,17 @@ persists st a k c = rule_both (λ o. Persists k (book_by k o)) st a k c (λ _ j 
     each (call.AskingHolding p i) h j e = refl
 
 -- lists with the same serials and orders
-into_bares : (P : Order → Type 0) (xs : List Instruction) → All (λ i. P i.order) xs → All (λ i. P i.order) (bares xs)
+into_bares : (P : Order → Type 0) (xs : List Instruction) → AllByRecursion (λ i. P i.order) xs → AllByRecursion (λ i. P i.order) (bares xs)
 into_bares P [] a = tt
 into_bares P (x ∷ xs) a = (a.0, into_bares P xs a.1)
 
-out_of_bares : (P : Order → Type 0) (xs : List Instruction) → All (λ i. P i.order) (bares xs) → All (λ i. P i.order) xs
+out_of_bares : (P : Order → Type 0) (xs : List Instruction) → AllByRecursion (λ i. P i.order) (bares xs) → AllByRecursion (λ i. P i.order) xs
 out_of_bares P [] a = tt
 out_of_bares P (x ∷ xs) a = (a.0, out_of_bares P xs a.1)
 
 alike_orders : (P : Order → Type 0) (xs ys : List Instruction) → bares ys ≡ bares xs
-    → All (λ i. P i.order) xs → All (λ i. P i.order) ys
-alike_orders P xs ys e a = out_of_bares P ys (subst (All (λ (i : Instruction). P i.order)) (sym e) (into_bares P xs a))
+    → AllByRecursion (λ i. P i.order) xs → AllByRecursion (λ i. P i.order) ys
+alike_orders P xs ys e a = out_of_bares P ys (subst (AllByRecursion (λ (i : Instruction). P i.order)) (sym e) (into_bares P xs a))
 
 -- an accepted order's legs lie before maturity
 accepted_before : (st : Setting) (k : Book) (o : Order) → dates_fit st k o ≡ true → Before k o
@@ -174,11 +174,11 @@ leaves_before k (call.AskingStatus n) l = tt
 leaves_before k (call.AskingHolding p i) l = tt
 
 legs_free : (k : Book) (st : Setting) (d : ℕ) (bs : List Blocking) (is : List Instruction)
-    → All (LegsKeep (λ _. Entry k) st d bs) is
+    → AllByRecursion (LegsKeep (λ _. Entry k) st d bs) is
 legs_free k st d bs [] = tt
 legs_free k st d bs (i ∷ is) = (λ a e n m. tt, legs_free k st d bs is)
 
-entered : (st : Setting) (a : Amounts) (k : Book) (c : Call) → All (Entry k) (moves_by (rule st a k c))
+entered : (st : Setting) (a : Amounts) (k : Book) (c : Call) → AllByRecursion (Entry k) (moves_by (rule st a k c))
 entered st a k c =
     along_all (Entry k) (moves_by (rule st a k c)) a
     (moves_along (λ _. Entry k) st a k c (λ o h. ltb-true (today k) (matures k o.issue) h.1.1.1.1.0)
@@ -188,7 +188,7 @@ entered st a k c =
 record Dated (h : Past) : Type 0 where
   listed : AllBefore h.book h.book.instructions.standing
   left : AllBefore h.book h.departed
-  entries : All (Entry h.book) h.journal
+  entries : AllByRecursion (Entry h.book) h.journal
 
 dated_step : (s : Start) (h : Past) (c : Call) → Dated h → Dated (step s h c)
 dated_step s h c d =
@@ -210,7 +210,7 @@ dated_from s h [] d = d
 dated_from s h (c ∷ cs) d = dated_from s (step s h c) cs (dated_step s h c d)
 
 -- what follows from each element that passes follows where one passes
-one_passes : {X : Type 0} (P : Type 0) (f : X → Bool) (xs : List X) → All (λ x. f x ≡ true → P) xs → total (λ x. one_if (f x)) xs ≡ 1 → P
+one_passes : {X : Type 0} (P : Type 0) (f : X → Bool) (xs : List X) → AllByRecursion (λ x. f x ≡ true → P) xs → total (λ x. one_if (f x)) xs ≡ 1 → P
 one_passes P f [] a e = absurd (omega arith)
 one_passes P f (x ∷ xs) a e = go (f x) a.0 e (one_passes P f xs a.1)
   where
@@ -240,7 +240,7 @@ timely k st xs b (settled d n e g r m y) h t =
     (All-weaker (λ i. Before k i.order) _ (λ i. carried k st d n e g r m y i) xs b) t
 timely k st xs b (redeemed d p i u c y) h t = h
 
-both : (P Q R : Movement → Type 0) → ((v : Movement) → P v → Q v → R v) → (vs : List Movement) → All P vs → All Q vs → All R vs
+both : (P Q R : Movement → Type 0) → ((v : Movement) → P v → Q v → R v) → (vs : List Movement) → AllByRecursion P vs → AllByRecursion Q vs → AllByRecursion R vs
 both P Q R f [] a b = tt
 both P Q R f (v ∷ vs) a b = (f v a.0 b.0, both P Q R f vs a.1 b.1)
 

@@ -1,6 +1,6 @@
 -- Sums over lists.
 use Rattle.std.proofs.Common.{◌≡◌, ℕ, zero, suc, ◌+◌, ◌<◌, ◌≤◌, Bool, true, false, cond, not, ◌&&◌, eqb, ltb, ◌⊎◌, List, [], ◌∷◌, ◌++◌, refl, inl, inr, arith}
-use Rattle.std.specs.List.{AllByRecursion as All}
+use Rattle.std.specs.List.{AllByRecursion}
 use Rattle.std.proofs.ByRecursion.{All-weaker}
 use Rattle.std.proofs.lemmas.Bool.{cond_both, cases_lt}
 use Rattle.std.proofs.lemmas.Bool.Decides.{nat_tests}
@@ -14,7 +14,7 @@ total_append f (x ∷ xs) ys = omega (arith, total_append f xs ys)
 pub total_push : {X : Type 0} (f : X → ℕ) (xs : List X) (y : X) → total f (xs ++ y ∷ []) ≡ total f xs + f y
 total_push f xs y = omega (arith, total_append f xs (y ∷ []))
 
-pub total_le : {X : Type 0} (f g : X → ℕ) (xs : List X) → All (λ x. f x ≤ g x) xs → total f xs ≤ total g xs
+pub total_le : {X : Type 0} (f g : X → ℕ) (xs : List X) → AllByRecursion (λ x. f x ≤ g x) xs → total f xs ≤ total g xs
 total_le f g [] a = omega arith
 total_le f g (x ∷ xs) a = omega (arith, a.0, total_le f g xs a.1)
 
@@ -46,28 +46,28 @@ total_passing_le f t xs = omega (arith, total_split f t xs)
 abbrev pub Member : {X : Type 0} → List X → X → Type 0
 Member {X} xs x = (f : X → ℕ) → f x ≤ total f xs
 
-pub member_le : {X : Type 0} (xs : List X) → All (Member xs) xs
+pub member_le : {X : Type 0} (xs : List X) → AllByRecursion (Member xs) xs
 member_le [] = tt
 member_le {X} (x ∷ xs) = (λ f. omega arith, more xs (member_le xs))
   where
-    more : (ys : List X) → All (λ y. (f : X → ℕ) → f y ≤ total f xs) ys → All (λ y. (f : X → ℕ) → f y ≤ f x + total f xs) ys
+    more : (ys : List X) → AllByRecursion (λ y. (f : X → ℕ) → f y ≤ total f xs) ys → AllByRecursion (λ y. (f : X → ℕ) → f y ≤ f x + total f xs) ys
     more [] a = tt
     more (y ∷ ys) a = (λ f. omega (arith, a.0 f), more ys a.1)
 
-pub all_front : {X : Type 0} (P : X → Type 0) (xs ys : List X) → All P (xs ++ ys) → All P xs
+pub all_front : {X : Type 0} (P : X → Type 0) (xs ys : List X) → AllByRecursion P (xs ++ ys) → AllByRecursion P xs
 all_front P [] ys a = tt
 all_front P (x ∷ xs) ys a = (a.0, all_front P xs ys a.1)
 
-pub all_both : {X : Type 0} (P Q : X → Type 0) (xs : List X) → All P xs → All Q xs → All (λ x. P x × Q x) xs
+pub all_both : {X : Type 0} (P Q : X → Type 0) (xs : List X) → AllByRecursion P xs → AllByRecursion Q xs → AllByRecursion (λ x. P x × Q x) xs
 all_both P Q [] a b = tt
 all_both P Q (x ∷ xs) a b = ((a.0, b.0), all_both P Q xs a.1 b.1)
 
-pub all_passes : {X : Type 0} (P : X → Type 0) (t : X → Bool) (xs : List X) → All P xs → All (λ x. P x × (t x ≡ true)) (passing t xs)
+pub all_passes : {X : Type 0} (P : X → Type 0) (t : X → Bool) (xs : List X) → AllByRecursion P xs → AllByRecursion (λ x. P x × (t x ≡ true)) (passing t xs)
 all_passes P t [] a = tt
 all_passes P t (x ∷ xs) a =
-    cond_both (t x) (x ∷ passing t xs) (passing t xs) (λ ys. All (λ y. P y × (t y ≡ true)) ys) (λ e. ((a.0, e), all_passes P t xs a.1)) (λ _. all_passes P t xs a.1)
+    cond_both (t x) (x ∷ passing t xs) (passing t xs) (λ ys. AllByRecursion (λ y. P y × (t y ≡ true)) ys) (λ e. ((a.0, e), all_passes P t xs a.1)) (λ _. all_passes P t xs a.1)
 
-pub all_passing : {X : Type 0} (P : X → Type 0) (t : X → Bool) (xs : List X) → All P xs → All P (passing t xs)
+pub all_passing : {X : Type 0} (P : X → Type 0) (t : X → Bool) (xs : List X) → AllByRecursion P xs → AllByRecursion P (passing t xs)
 all_passing P t xs a = All-weaker (λ x. P x × (t x ≡ true)) P (λ _ p. p.0) (passing t xs) (all_passes P t xs a)
 
 pub sum_below_same : (n : ℕ) (f g : ℕ → ℕ) → ((x : ℕ) → x < n → f x ≡ g x) → sum_below n f ≡ sum_below n g

@@ -1,6 +1,6 @@
 -- Which instructions belong together: what is counted, and what a change of fates leaves of it.
 use Rattle.std.proofs.Common.{◌≡◌, ℕ, ◌<◌, ◌≤◌, Bool, true, false, cond, not, ◌&&◌, ◌||◌, eqb, List, [], ◌∷◌, map, Some, None, Option, sym, refl, ap, ◌∙◌, subst, arith}
-use Rattle.std.specs.List.{AllZip, AllByRecursion as All}
+use Rattle.std.specs.List.{AllZip, AllByRecursion}
 use Rattle.std.proofs.lemmas.Bool.{both_ways}
 use Rattle.refusals.specs.declared.Refusal.{Refusal}
 use Rattle.refusals.specs.declared.Refusal.TheVariants.{NoPartner}
@@ -171,31 +171,31 @@ cancelled_bare p n is = turned_bare is (cancelled_in p n is) (cancel_turns p n i
 
 -- a sum that reads only what a turn leaves stays, and so does what holds of each
 pub turned_total : (f : Instruction → ℕ) → ((i j : Instruction) → Calm i → Turn i j → f j ≡ f i)
-    → (is js : List Instruction) → All Calm is → AllZip Turn is js → total f js ≡ total f is
+    → (is js : List Instruction) → AllByRecursion Calm is → AllZip Turn is js → total f js ≡ total f is
 turned_total f h [] [] k t = refl
 turned_total f h [] (j ∷ js) k t = absurd t
 turned_total f h (i ∷ is) [] k t = absurd t
 turned_total f h (i ∷ is) (j ∷ js) k t = omega (arith, h i j k.0 t.0, turned_total f h is js k.1 t.1)
 
 pub turned_all : (P Q : Instruction → Type 0) → ((i j : Instruction) → Calm i → Turn i j → P i → Q j)
-    → (is js : List Instruction) → All Calm is → AllZip Turn is js → All P is → All Q js
+    → (is js : List Instruction) → AllByRecursion Calm is → AllZip Turn is js → AllByRecursion P is → AllByRecursion Q js
 turned_all P Q h [] [] k t a = tt
 turned_all P Q h [] (j ∷ js) k t a = absurd t
 turned_all P Q h (i ∷ is) [] k t a = absurd t
 turned_all P Q h (i ∷ is) (j ∷ js) k t a = (h i j k.0 t.0 a.0, turned_all P Q h is js k.1 t.1 a.1)
 
-pub turned_joined : (n : ℕ) (is js : List Instruction) → All Calm is → AllZip Turn is js → total (joined_to n) js ≡ total (joined_to n) is
+pub turned_joined : (n : ℕ) (is js : List Instruction) → AllByRecursion Calm is → AllZip Turn is js → total (joined_to n) js ≡ total (joined_to n) is
 turned_joined n = turned_total (joined_to n) (λ i j _ t k. one_if (t.joined n k))
 
-pub turned_led : (n : ℕ) (is js : List Instruction) → All Calm is → AllZip Turn is js → total (leading n) js ≡ total (leading n) is
+pub turned_led : (n : ℕ) (is js : List Instruction) → AllByRecursion Calm is → AllZip Turn is js → total (leading n) js ≡ total (leading n) is
 turned_led n =
     turned_total (leading n) (λ i j h t k. one_if (eqb (t.serial k) n && (t.matched h k && not (is_inside (t.order k)))))
 
-pub turned_calm : (is js : List Instruction) → All Calm is → AllZip Turn is js → All Calm js
+pub turned_calm : (is js : List Instruction) → AllByRecursion Calm is → AllZip Turn is js → AllByRecursion Calm js
 turned_calm is js k t = turned_all Calm Calm (λ i j _ t h. t.calm h) is js k t k
 
 pub turned_fits : (c c' : ℕ → Order → ℕ) → ((n : ℕ) (o : Order) → c n o ≤ c' n o)
-    → (is js : List Instruction) → All Calm is → AllZip Turn is js → All (Fits c) is → All (Fits c') js
+    → (is js : List Instruction) → AllByRecursion Calm is → AllZip Turn is js → AllByRecursion (Fits c) is → AllByRecursion (Fits c') js
 turned_fits c c' l =
     turned_all (Fits c) (Fits c') (λ i j _ t h n e.
     let w = h n (sym (t.joined n) ∙ e) in

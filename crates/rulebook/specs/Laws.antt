@@ -1,6 +1,6 @@
 -- What holds over every list of calls, in the subject's words.
 use Rattle.std.specs.Prelude.{◌≡◌, ℕ, ◌+◌, ◌<◌, ◌≤◌, Bool, true, false, cond, not, ◌&&◌, ◌||◌, ◌⊎◌, List, [], ◌∷◌, ◌++◌, map, length, Some, None, Option, ◌==◌, ◌≢◌, nat_le, nat_lt}
-use Rattle.std.specs.List.{AllByRecursion as All}
+use Rattle.std.specs.List.{AllByRecursion}
 use Rattle.refusals.specs.declared.Refusal.{Refusal}
 use Rattle.refusals.specs.declared.Refusal.TheVariants.{WrongState, NominalShort, MoneyShort}
 use Rattle.refusals.specs.Table.{number}
@@ -127,12 +127,12 @@ pub record LawfulPast (s : Start) (h : Past) : Type 0 where
   pub remembered : (n : ℕ) → with_serial h n ≡ one_if (nat_lt 0 n && nat_lt n h.book.instructions.next)
   -- never two of settled, refused and cancelled; exactly one once the value date is closed; a joined one is what its partner is
   pub never_two : (n : ℕ) → endings h n ≤ 1
-  pub decided : All
+  pub decided : AllByRecursion
       (λ i. day_closed h.book.standing i.order.value_date.number ≡ true → endings h (principal i) ≡ 1)
       (accepted h)
   -- a return is never both settled and refused; exactly one once the return date of a settled repo is closed
   pub return_never_two : (n : ℕ) → return_endings h n ≤ 1
-  pub return_decided : All
+  pub return_decided : AllByRecursion
       (λ i. (d : Date) → i.order.return_date ≡ Some d → day_closed h.book.standing d.number ≡ true
       → times h.journal (principal i) first ≡ 1 → return_endings h (principal i) ≡ 1)
       (accepted h)
@@ -203,18 +203,18 @@ redeems i (redeemed d p k u c y) = cond (k == i) (u + c) 0
 
 pub record OrderlyPast (s : Start) (h : Past) : Type 0 where
   -- a joined instruction's partner has a lower serial, and the same order but for the sender
-  pub partner : All
+  pub partner : AllByRecursion
       (λ i. (n : ℕ) → i.fate ≡ fate.Joined n
       → (n < i.serial)
       × (total (λ x. one_if (has_serial n x && same_order x.order (counter i.order))) (accepted h) ≡ 1))
       (accepted h)
   -- one that was matched has exactly one joined to it, inside one participant none; no other has any
-  pub joined_once : All
+  pub joined_once : AllByRecursion
       (λ i. total (λ x. one_if (joins i.serial x.fate)) (accepted h)
       ≡ one_if (was_matched i && not (is_inside i.order)))
       (accepted h)
   -- each leg in the journal is one accepted instruction's, on its date, between its places, of its nominal and price
-  pub legs : All
+  pub legs : AllByRecursion
       (λ v. total (λ i. one_if (carries_out (setting_of s) v i)) (accepted h) ≡ one_if (is_settlement v))
       h.journal
   pub returns : ReturnsBehind [] h.journal
@@ -246,14 +246,14 @@ pub record TriedLast (s : Start) (h h' : Past) (i : Instruction) : Type 0 where
   pub before : Journal
   pub rest : Journal
   pub journal : h'.journal ≡ (h.journal ++ before) ++ rest
-  pub lower : All (λ v. leg_serial v < i.serial) before
-  pub higher : All (λ v. i.serial < leg_serial v) rest
+  pub lower : AllByRecursion (λ v. leg_serial v < i.serial) before
+  pub higher : AllByRecursion (λ v. i.serial < leg_serial v) rest
   pub short : Short s (reads s.funds (h.journal ++ before)) h.book.blockings.standing i
 
 abbrev pub RefusedShort : Start → Past → Type 0
 RefusedShort s h =
     is_on_a_day h.book ≡ true
-    → All
+    → AllByRecursion
     (λ i. is_leg_refused i.fate && was_matched i ≡ true → TriedLast s h (step s h call.Closing) i)
     (step s h call.Closing).book.instructions.standing
 
@@ -304,7 +304,7 @@ MinistrySide st (settled d n e g r m y) = Unit {0}
 MinistrySide st (redeemed d p i u c y) = y ≡ payment st 0 p (u + c)
 
 abbrev pub MinistryPaid : Type 0
-MinistryPaid = (s : Start) (cs : List Call) → All (MinistrySide (setting_of s)) (history s cs).journal
+MinistryPaid = (s : Start) (cs : List Call) → AllByRecursion (MinistrySide (setting_of s)) (history s cs).journal
 
 -- placements and legs of an issue lie before its maturity, redemptions at it or later
 abbrev pub Timely : Book → Movement → Type 0
@@ -313,7 +313,7 @@ Timely k (settled d n e g r m y) = d < matures k g.issue
 Timely k (redeemed d p i u c y) = (is_registered k i ≡ true) × (matures k i ≤ d)
 
 abbrev pub IssuesTimely : Type 0
-IssuesTimely = (s : Start) → Sensible s → (cs : List Call) → All (Timely (history s cs).book) (history s cs).journal
+IssuesTimely = (s : Start) → Sensible s → (cs : List Call) → AllByRecursion (Timely (history s cs).book) (history s cs).journal
 
 -- a fate is one of some, whichever serial a joined one is joined to
 abbrev pub is_one_of : List Fate → Fate → Bool
@@ -341,7 +341,7 @@ follows i j = has_serial i.serial j && (same_order j.order i.order && may_move i
 abbrev pub FatesMove : Type 0
 FatesMove =
     (s : Start) → Sensible s → (cs : List Call) (c : Call)
-    → All
+    → AllByRecursion
     (λ i. total (λ j. one_if (follows i j)) (accepted (step s (history s cs) c)) ≡ 1)
     (accepted (history s cs))
 
@@ -369,12 +369,12 @@ cause_suits fate.Cancelled c = is_blank c
 abbrev pub CausesSuit : Type 0
 CausesSuit =
     (s : Start) → Sensible s → (cs : List Call)
-    → All (λ i. cause_suits i.fate i.cause ≡ true) (accepted (history s cs))
+    → AllByRecursion (λ i. cause_suits i.fate i.cause ≡ true) (accepted (history s cs))
 
 -- opening goes to the one business day that comes next, or, where none is later, to no day
 abbrev pub Goes_on : List ℕ → ℕ → ℕ → ℕ → Type 0
 Goes_on days before answered after =
-    ((answered ≡ 0) × (after ≡ before) × All (λ b. b ≤ before) days)
+    ((answered ≡ 0) × (after ≡ before) × AllByRecursion (λ b. b ≤ before) days)
     ⊎ ((is_business answered days ≡ true) × (count_between before answered days ≡ 1) × (after ≡ answered))
 
 -- business days pass one by one: none is left out or opened twice, and no call but opening changes the day

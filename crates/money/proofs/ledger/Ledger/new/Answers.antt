@@ -1,5 +1,5 @@
 use Rattle.std.proofs.Common.{ℕ, ◌≤◌, vec_items, sym, refl, subst, arith}
-use Rattle.std.specs.List.{AllByRecursion as All}
+use Rattle.std.specs.List.{AllByRecursion}
 use Rattle.std.proofs.ByRecursion.{All-get_or, All-more, sum_by_le}
 use Rattle.money.proofs.Loops.{seen_all}
 use Rattle.money.proofs.ledger.Ledger.new.Goals as goal
@@ -10,7 +10,7 @@ Low b = b ≤ 1000000000000000
 pub returns-then-balance-gt-MOST_AT_FIRST : goal.returns-then-balance-gt-MOST_AT_FIRST
 returns-then-balance-gt-MOST_AT_FIRST c =
     let xs = c.as_slice-balance-items.result.now in
-    (λ o. omega (arith, All-get_or Low xs c.loop-balance.balance-index 0 c.loop-balance-test.true (subst (All Low) (sym c.as_slice-balance-items.ensures.value) o.2), c.if-balance-gt-MOST_AT_FIRST.true), refl)
+    (λ o. omega (arith, All-get_or Low xs c.loop-balance.balance-index 0 c.loop-balance-test.true (subst (AllByRecursion Low) (sym c.as_slice-balance-items.ensures.value) o.2), c.if-balance-gt-MOST_AT_FIRST.true), refl)
 
 pub loop-balance-preserved : goal.loop-balance-preserved
 loop-balance-preserved c =
