@@ -1,5 +1,5 @@
 -- A list by its first element and the rest.
-use Rattle.std.proofs.Common.{◌≡◌, ℕ, ◌+◌, List, [], ◌∷◌, length, Some, None, sym, refl, ap, arith}
+use Rattle.std.proofs.Common.{◌≡◌, ℕ, List, [], ◌∷◌, Some, None, sym, refl, ap, arith}
 use Rattle.dayfile.specs.Text.{first_of, rest_of}
 
 pub none_left : {X : Type 0} (xs : List X) → None ≡ first_of xs → xs ≡ []

@@ -1,5 +1,5 @@
 -- A slip by what is written on it.
-use Rattle.std.proofs.Common.{◌≡◌, ℕ, ◌+◌, ◌-◌, ◌<◌, List, ◌++◌, length, take, drop, set, replicate, sym, ap, ◌∙◌, arith}
+use Rattle.std.proofs.Common.{◌≡◌, ℕ, ◌+◌, ◌-◌, ◌<◌, List, ◌++◌, length, drop, set, replicate, sym, ap, ◌∙◌, arith}
 use Rattle.std.proofs.lemmas.List.{take-append-drop, length-take-le, length-drop, length-replicate, drop-set-lt, drop-drop, drop-replicate}
 use Rattle.dayfile.specs.declared.slip.Slip.{Slip}
 use Rattle.dayfile.specs.Replies.{written, padded}

@@ -1,7 +1,6 @@
 -- The line of a call makes that call.
-use Rattle.std.proofs.Common.{◌≡◌, ℕ, zero, suc, ◌+◌, ◌-◌, ◌*◌, ◌/◌, ◌%◌, ◌^◌, ◌<◌, ◌≤◌, Bool, true, false, cond, not, ◌&&◌, ◌||◌, eqb, ltb, leb, List, [], ◌∷◌, ◌++◌, map, length, get_or, Some, None, decimal, sym, refl, ap, ◌∙◌, ⊎_elim, pow-suc, arith, rules}
+use Rattle.std.proofs.Common.{◌≡◌, ℕ, zero, suc, ◌+◌, ◌-◌, ◌*◌, ◌/◌, ◌%◌, ◌^◌, ◌<◌, ◌≤◌, true, cond, leb, List, [], ◌∷◌, ◌++◌, length, get_or, Some, None, decimal, refl, ap, ◌∙◌, ⊎_elim, pow-suc, arith}
 use Rattle.std.specs.Char.{is_ascii_digit}
-use Rattle.std.specs.Int.{IsInRange}
 use Rattle.std.specs.List.{AllByRecursion}
 use Rattle.std.specs.Str.{all_ascii_digits}
 use Rattle.std.proofs.lemmas.Bool.{ne_eqb, le-leb, and_from, and_parts, cases_lt}
@@ -10,8 +9,8 @@ use Rattle.std.proofs.lemmas.Str.Parse.{tells_all_ascii_digits}
 use Rattle.std.proofs.lemmas.Fmt.{digits_decimal, digits_value-decimal, length-decimal-le, decimal_nonempty, decimal_digit, first_decimal}
 use Rattle.calendar.specs.declared.Date.{Date}
 use Rattle.dayfile.specs.Text.{prepend, fields, commas, Without}
-use Rattle.dayfile.specs.Looks.{Look, date, number, letter, look_of}
-use Rattle.dayfile.specs.Values.{value, value_from, is_numeral, number_of, date_of}
+use Rattle.dayfile.specs.Looks.{date, letter, look_of}
+use Rattle.dayfile.specs.Values.{value, value_from, number_of, date_of}
 use Rattle.dayfile.specs.Spelling.{figures}
 use Rattle.dayfile.proofs.Figures.{own}
 

@@ -1,14 +1,14 @@
 -- Lines worked one after the other, and the two spellings of a file's end.
-use Rattle.std.proofs.Common.{◌≡◌, ℕ, suc, ◌+◌, ◌≤◌, true, cond, eqb, leb, List, [], ◌∷◌, ◌++◌, length, Some, None, Ok, Err, Option, Result, sym, refl, ap, ◌∙◌, arith, length-append}
-use Rattle.std.proofs.lemmas.List.{append-nil, append_assoc}
+use Rattle.std.proofs.Common.{◌≡◌, ℕ, suc, ◌+◌, ◌≤◌, cond, eqb, leb, List, [], ◌∷◌, ◌++◌, length, Some, None, Ok, Err, Result, sym, refl, ap, ◌∙◌, arith, length-append}
+use Rattle.std.proofs.lemmas.List.{append_assoc}
 use Rattle.std.proofs.lemmas.Bool.{cond_both, le-leb}
 use Rattle.refusals.specs.declared.Refusal.{Refusal}
 use Rattle.refusals.specs.declared.Refusal.TheVariants.{FileTooLong}
 use Rattle.rulebook.specs.declared.Answer.{Answer}
 use Rattle.register.specs.Shows.{View}
-use Rattle.dayfile.specs.Text.{lines, parts, prepend, first_of, rest_of, SameLines}
+use Rattle.dayfile.specs.Text.{lines, prepend, first_of, rest_of, SameLines}
 use Rattle.dayfile.specs.Readers.{file_lines}
-use Rattle.desk.specs.Work.{line_step, run_lines, by_lines, worked, LastLineCounts}
+use Rattle.desk.specs.Work.{line_step, run_lines, by_lines, LastLineCounts}
 
 -- working goes on behind the answers that are there
 abbrev pub resumed : View → List Answer → List (List ℕ) → View × List Answer

@@ -2,7 +2,7 @@
 use Rattle.std.proofs.Common.{◌≡◌, ℕ, ◌<◌, ◌≤◌, true, false, ◌⊎◌, List, length, get_or, Ok, Err, sym, refl, ap, ◌∙◌, inl, inr, ⊎_elim, arith}
 use Rattle.std.proofs.lemmas.List.FromFn.{length-range_with_len, get_or-range_with_len}
 use Rattle.refusals.specs.declared.Refusal.TheVariants.{UnknownParticipant, AmountLimits, MoneyShort}
-use Rattle.money.specs.Funds.{Funds, payment, payable, account, balance, asked, moved, shifted}
+use Rattle.money.specs.Funds.{payment, payable, account, balance, asked, moved, shifted}
 use Rattle.money.specs.Ledger.{of_ledger}
 use Rattle.money.proofs.Payments.{asked_known, asked_unknown, payment_unknown, payment_amount, payment_same, payment_short, payment_moves}
 use Rattle.money.proofs.Shifts.{length_shifted}

@@ -1,5 +1,5 @@
 -- The meanings of ledgers and agent tables are sound.
-use Rattle.std.specs.Prelude.{◌≡◌, ℕ, ◌<◌, ◌≤◌, List, map, length, vec_items, slice_index}
+use Rattle.std.specs.Prelude.{◌≡◌, ℕ, ◌<◌, List, map, length, vec_items, slice_index}
 use Rattle.std.proofs.Common.{◌∙◌, ap, arith}
 use Rattle.std.proofs.lemmas.List.FromFn.{length-range_with_len, get_or-range_with_len}
 use Rattle.std.proofs.lemmas.List.{length-map, get_or-map}
@@ -8,7 +8,7 @@ use Rattle.money.specs.declared.ledger.Ledger.{Ledger}
 use Rattle.money.specs.declared.agents.AgentTable.{AgentTable}
 use Rattle.money.specs.Funds.{Funds, Sound, account, known}
 use Rattle.money.specs.Ledger.{ledger_funds}
-use Rattle.money.specs.Agents.{agent, of_agents, table_funds}
+use Rattle.money.specs.Agents.{agent, table_funds}
 
 pub ledger_sound : (l : Ledger) → Sound (ledger_funds l)
 ledger_sound l =

@@ -11,7 +11,7 @@ use Rattle.rulebook.specs.declared.Fate.TheVariants as fate
 use Rattle.rulebook.specs.Words.{one_if, total, Leg, first, return, same_leg, Movement, is_leg, Amounts, afters, Blocking, Instruction, turned, alike, Setting}
 use Rattle.rulebook.specs.Checks.{may_cancel, has_serial}
 use Rattle.rulebook.specs.Matching.{same_order, counter, is_partner, pair_up, met, arrive, wake, wake_all, cancelled_in}
-use Rattle.rulebook.specs.Rounds.{leg, is_day, settles, try, settled_one, tried, try_moves, rounds, is_leg_done, is_leg_refused, ended, ended_all}
+use Rattle.rulebook.specs.Rounds.{leg, is_day, try, settled_one, tried, try_moves, rounds, is_leg_done, is_leg_refused, ended, ended_all}
 use Rattle.rulebook.specs.Journal.{times}
 use Rattle.rulebook.proofs.Totals.{total_append, one_if_grows, one_if_none}
 use Rattle.rulebook.proofs.Ways.{Ready, try_both, ended_both, cancel_both, arrive_both, is_waiting}

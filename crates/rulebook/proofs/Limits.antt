@@ -1,9 +1,8 @@
 -- Questions, states, places and numbers, blockings, and orders compared.
-use Rattle.std.proofs.Common.{◌≡◌, ℕ, ◌+◌, ◌<◌, ◌≤◌, Bool, true, false, cond, not, ◌&&◌, eqb, ltb, leb, ◌⊎◌, List, [], ◌∷◌, ◌++◌, map, length, Some, None, Err, Option, Result, sym, refl, ap, inl, inr, arith}
+use Rattle.std.proofs.Common.{◌≡◌, ℕ, ◌+◌, ◌≤◌, Bool, true, false, cond, not, eqb, ltb, leb, ◌⊎◌, List, [], ◌∷◌, ◌++◌, length, Some, None, Err, Option, refl, ap, inl, inr, arith}
 use Rattle.std.proofs.lemmas.List.{length-append, length-map}
 use Rattle.std.proofs.lemmas.Bool.{cond_both, and_parts, both_ways, eqb-true, ltb-true, leb-true}
 use Rattle.std.proofs.lemmas.Bool.Decides.{nat_tests}
-use Rattle.refusals.specs.declared.Refusal.{Refusal}
 use Rattle.refusals.specs.declared.Refusal.TheVariants.{WrongState, NotFound}
 use Rattle.refusals.specs.Table.{number}
 use Rattle.calendar.specs.declared.Date.{Date}
@@ -14,15 +13,14 @@ use Rattle.rulebook.specs.declared.Order.{Order}
 use Rattle.rulebook.specs.declared.Fate.TheVariants as fate
 use Rattle.rulebook.specs.declared.Call.{Call}
 use Rattle.rulebook.specs.declared.Call.TheVariants as call
-use Rattle.rulebook.specs.declared.Answer.{Answer}
 use Rattle.rulebook.specs.declared.Answer.TheVariants as answer
 use Rattle.rulebook.specs.States.{on_no_day}
 use Rattle.rulebook.specs.Answers.{answer_letter}
-use Rattle.rulebook.specs.Words.{total, found, same_side, Place, same, at, Amounts, afters, Blocking, Instruction, turned, alike, Numbered, Setting, Book, Start, blocked}
+use Rattle.rulebook.specs.Words.{found, same_side, Place, at, Amounts, afters, Blocking, Instruction, turned, alike, Numbered, Setting, Book, Start, blocked}
 use Rattle.rulebook.specs.Checks.{Check, verdict, today, is_inside, may_cancel, is_blocking, has_serial}
-use Rattle.rulebook.specs.Matching.{same_sender, same_date, same_option, same_order, is_partner, pair_up, met, admit, arrive, wake, wake_all, leaves, stayers, cancelled_in}
+use Rattle.rulebook.specs.Matching.{same_sender, same_date, same_option, is_partner, pair_up, met, admit, arrive, wake, wake_all, leaves, stayers, cancelled_in}
 use Rattle.rulebook.specs.Rounds.{try, try_moves, rounds, ended}
-use Rattle.rulebook.specs.Rules.{Outcome, refuses, does, status_of, checks, work, ruled, rule, answer_by, book_by, standing_now, opens, incoming, granted, rounded, closing_list, close_on_no_day, close_on_a_day}
+use Rattle.rulebook.specs.Rules.{Outcome, does, status_of, checks, work, ruled, answer_by, book_by, standing_now, opens, incoming, granted, rounded, closing_list, close_on_no_day, close_on_a_day}
 use Rattle.rulebook.specs.Journal.{Past, setting_of, reads, new_past, step, history_from, View, view_by}
 use Rattle.rulebook.specs.Laws.{check_numbers, suits, QuestionsKeep, StateTakes, Limited, PlacesLimited, BlockingsStay, SameOrdersEqual}
 use Rattle.rulebook.proofs.Answering.{Passes, rule_both}

@@ -8,7 +8,6 @@ use Rattle.rulebook.specs.States.{opened}
 use Rattle.rulebook.specs.Words.{Instruction, Start, Book}
 use Rattle.rulebook.specs.Checks.{today, instruct_checks}
 use Rattle.rulebook.specs.Matching.{leaves, stayers}
-use Rattle.rulebook.specs.Rounds.{tried}
 use Rattle.rulebook.specs.Rules.{incoming, rounded}
 use Rattle.rulebook.specs.Journal.{reads, setting_of, Past, step, history}
 use Rattle.rulebook.proofs.Answering.{Passes}

@@ -1,5 +1,5 @@
 -- Business days pass one by one.
-use Rattle.std.proofs.Common.{◌≡◌, ℕ, suc, ◌+◌, ◌<◌, ◌≤◌, Bool, true, false, cond, ◌&&◌, ◌||◌, eqb, ltb, leb, ◌⊎◌, List, [], ◌∷◌, length, Some, None, Option, refl, ap, ◌∙◌, subst, inl, inr, arith}
+use Rattle.std.proofs.Common.{◌≡◌, ℕ, suc, ◌+◌, ◌≤◌, Bool, true, false, cond, ◌&&◌, eqb, ltb, leb, List, [], ◌∷◌, length, Some, None, Option, refl, ap, ◌∙◌, subst, inl, inr, arith}
 use Rattle.std.specs.List.{AllByRecursion}
 use Rattle.std.proofs.lemmas.Bool.{cond_both, cond-true, cond-false, or_left, or_right, eq-eqb}
 use Rattle.std.proofs.lemmas.Bool.Decides.{nat_tests}
@@ -12,7 +12,7 @@ use Rattle.rulebook.specs.declared.Answer.TheVariants as answer
 use Rattle.rulebook.specs.States.{Standing, on_no_day, opened_on, opening_date}
 use Rattle.rulebook.specs.Words.{Book}
 use Rattle.rulebook.specs.Checks.{verdict, is_shut}
-use Rattle.rulebook.specs.Rules.{Outcome, refuses, ruled, work, answer_by, book_by}
+use Rattle.rulebook.specs.Rules.{Outcome, ruled, work, answer_by, book_by}
 use Rattle.rulebook.specs.Journal.{View, next}
 use Rattle.rulebook.specs.Laws.{Goes_on, DaysPass}
 use Rattle.rulebook.proofs.Answering.{rule_both}

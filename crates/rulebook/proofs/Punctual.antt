@@ -13,7 +13,7 @@ use Rattle.rulebook.specs.States.{shut, on_a_day, on_no_day, Standing, opened_on
 use Rattle.rulebook.specs.Words.{some_passes, Leg, first, return, Amounts, afters, Blocking, Instruction, turned, alike, Setting}
 use Rattle.rulebook.specs.Checks.{may_cancel}
 use Rattle.rulebook.specs.Matching.{same_order, counter, is_partner, pair_up, met, arrive, wake, wake_all, has_ended, joins, leaves, cancelled_in}
-use Rattle.rulebook.specs.Rounds.{is_leg_refused, is_day, waits, settles, try, settled_one, tried, try_moves, rounds, ended, ended_all}
+use Rattle.rulebook.specs.Rounds.{is_leg_refused, is_day, try, settled_one, tried, try_moves, rounds, ended, ended_all}
 use Rattle.rulebook.specs.Laws.{day_closed}
 use Rattle.rulebook.proofs.Ways.{Ready, try_both, ended_both, cancel_both, arrive_both, is_waiting}
 use Rattle.rulebook.proofs.Totals.{all_passes}

@@ -11,7 +11,7 @@ use Rattle.rulebook.specs.declared.Pledge.{Pledge}
 use Rattle.rulebook.specs.declared.Call.{Call}
 use Rattle.rulebook.specs.declared.Call.TheVariants as call
 use Rattle.rulebook.specs.States.{on_no_day}
-use Rattle.rulebook.specs.Words.{total, sum_below, same_side, Place, place, same, at, Payment, first, return, Movement, placed, settled, redeemed, takes, brings, money, out_of, into, Amounts, after, afters, Blocking, Instruction, Setting, Book, Start, blocked, free, account, payment, priced, outstanding}
+use Rattle.rulebook.specs.Words.{total, sum_below, same_side, Place, place, at, Payment, first, return, Movement, placed, settled, redeemed, takes, brings, money, out_of, into, Amounts, after, afters, Blocking, Instruction, Setting, Book, Start, blocked, free, account, payment, priced, outstanding}
 use Rattle.rulebook.specs.Checks.{knows, today, held, place_checks, pledge_place, block_checks, is_blocking, redeem_checks}
 use Rattle.rulebook.specs.Rules.{Outcome, checks, work, rule, book_by, moves_by, placing, granted, redeeming}
 use Rattle.rulebook.specs.Journal.{taken, brought, paid, received, had, reads, setting_of, Past, new_past, outcome, step, history}

@@ -11,7 +11,7 @@ use Rattle.rulebook.specs.declared.Fate.TheVariants as fate
 use Rattle.rulebook.specs.Words.{one_if, total, same_side, Place, same, Payment, Leg, first, return, Movement, placed, settled, redeemed, is_leg, Amounts, after, afters, Blocking, Instruction, Setting}
 use Rattle.rulebook.specs.Checks.{has_serial, date_of}
 use Rattle.rulebook.specs.Matching.{same_option}
-use Rattle.rulebook.specs.Rounds.{giver, receiver, leg_payment, leg, is_day, due, waits, settles, try_moves, rounds}
+use Rattle.rulebook.specs.Rounds.{giver, receiver, leg_payment, leg, is_day, try_moves, rounds}
 use Rattle.rulebook.specs.Journal.{Journal, times}
 use Rattle.rulebook.specs.Laws.{leg_date, same_payment, moves_as, carries_out, is_settlement, ReturnsBehind}
 use Rattle.rulebook.proofs.Totals.{one_if_le, one_if_part, total_append, Member}

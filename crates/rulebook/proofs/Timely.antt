@@ -1,22 +1,21 @@
 -- What moves before an issue's maturity, and what from then on.
-use Rattle.std.proofs.Common.{◌≡◌, ℕ, ◌+◌, ◌<◌, ◌≤◌, Bool, true, false, cond, not, ◌&&◌, eqb, ltb, leb, List, [], ◌∷◌, ◌++◌, map, is_some, Some, None, Option, sym, refl, ap, ◌∙◌, subst, arith}
+use Rattle.std.proofs.Common.{◌≡◌, ℕ, ◌+◌, ◌<◌, ◌≤◌, Bool, true, false, not, ◌&&◌, eqb, ltb, leb, List, [], ◌∷◌, ◌++◌, is_some, Some, None, Option, sym, refl, ap, ◌∙◌, subst, arith}
 use Rattle.std.specs.List.{AllByRecursion}
 use Rattle.std.proofs.lemmas.List.{map_push, get_or-set_other}
 use Rattle.std.proofs.ByRecursion.{All-append, All-weaker}
 use Rattle.std.proofs.lemmas.Bool.{cond_both, and_parts, both_ways, eqb-true, eqb-false, ltb-true, leb-true}
 use Rattle.calendar.specs.declared.Date.{Date}
-use Rattle.calendar.specs.Days.{passing, is_business}
+use Rattle.calendar.specs.Days.{is_business}
 use Rattle.rulebook.specs.declared.Order.{Order}
 use Rattle.rulebook.specs.declared.Call.{Call}
 use Rattle.rulebook.specs.declared.Call.TheVariants as call
 use Rattle.rulebook.specs.States.{on_no_day}
-use Rattle.rulebook.specs.Words.{one_if, total, Place, place, same, Payment, Leg, first, return, Movement, placed, settled, redeemed, Amounts, Blocking, Instruction, Setting, Book, Start}
+use Rattle.rulebook.specs.Words.{one_if, total, Place, place, Payment, Leg, first, return, Movement, placed, settled, redeemed, Amounts, Blocking, Instruction, Setting, Book, Start}
 use Rattle.rulebook.specs.Checks.{today, maturity, is_registered, date_of, matures, return_date_fits, dates_fit, is_shut, has_serial}
-use Rattle.rulebook.specs.Matching.{arrive, wake_all, leaves, leavers, stayers, cancelled_in}
-use Rattle.rulebook.specs.Rounds.{ended_all}
-use Rattle.rulebook.specs.Rules.{Outcome, checks, work, rule, book_by, moves_by, opens, incoming, rounded, closing_list, close_on_no_day, close_on_a_day}
+use Rattle.rulebook.specs.Matching.{arrive, leaves, leavers, stayers, cancelled_in}
+use Rattle.rulebook.specs.Rules.{checks, work, rule, book_by, moves_by, opens, incoming, rounded, closing_list, close_on_no_day, close_on_a_day}
 use Rattle.rulebook.specs.Journal.{Past, setting_of, reads, accepted, leaving, outcome, step, new_past, history_from, history}
-use Rattle.rulebook.specs.Laws.{Sensible, leg_date, moves_as, carries_out, is_settlement, Timely, IssuesTimely}
+use Rattle.rulebook.specs.Laws.{leg_date, moves_as, carries_out, is_settlement, Timely, IssuesTimely}
 use Rattle.rulebook.proofs.Answering.{Passes, rule_both}
 use Rattle.rulebook.proofs.Totals.{all_passing}
 use Rattle.rulebook.proofs.Covered.{same_true, LegsKeep, moves_along}

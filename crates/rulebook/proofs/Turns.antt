@@ -13,7 +13,7 @@ use Rattle.rulebook.specs.Answers.{cause_number}
 use Rattle.rulebook.specs.Words.{one_if, total, Leg, first, return, Amounts, afters, Blocking, Instruction, turned, alike, Setting}
 use Rattle.rulebook.specs.Checks.{is_inside, has_serial, may_cancel}
 use Rattle.rulebook.specs.Matching.{joins, same_order, counter, cancelled_in}
-use Rattle.rulebook.specs.Rounds.{due, Try, idle, waits, settles, try, settled_one, tried, try_moves, rounds, ended, ended_all}
+use Rattle.rulebook.specs.Rounds.{Try, idle, waits, settles, try, settled_one, tried, try_moves, rounds, ended, ended_all}
 use Rattle.rulebook.specs.Laws.{was_matched}
 use Rattle.rulebook.proofs.Ways.{Ready, try_both, ended_both, cancel_both}
 use Rattle.rulebook.proofs.Roll.{bares}

@@ -4,7 +4,6 @@ use Rattle.refusals.specs.declared.Refusal.{Refusal}
 use Rattle.refusals.specs.Table.{number}
 use Rattle.rulebook.specs.declared.Fate.{Fate}
 use Rattle.rulebook.specs.declared.Fate.TheVariants as fate
-use Rattle.rulebook.specs.declared.Holding.{Holding}
 use Rattle.rulebook.specs.declared.Answer.{Answer}
 use Rattle.rulebook.specs.declared.Answer.TheVariants.{Opened, Registered, Placed, Instructed, Cancelled, Blocked, Released, RoundMade, Closed, Redeemed, Status, Holds, Refused}
 

@@ -11,11 +11,11 @@ use Rattle.rulebook.specs.declared.Fate.TheVariants as fate
 use Rattle.rulebook.specs.declared.Call.{Call}
 use Rattle.rulebook.specs.declared.Call.TheVariants.{Opening, NewIssue, Placing, Instructing, Cancelling, Blocking, Releasing, Round, Closing, Redeeming, AskingStatus, AskingHolding}
 use Rattle.rulebook.specs.declared.Answer.{Answer}
-use Rattle.rulebook.specs.declared.Answer.TheVariants.{Opened, Registered, Placed, Instructed, Cancelled, Blocked, Released, RoundMade, Closed, Redeemed, Status, Holds, Refused}
+use Rattle.rulebook.specs.declared.Answer.TheVariants.{Opened, Registered, Placed, Instructed, Cancelled, Blocked, RoundMade, Closed, Redeemed, Status, Holds, Refused}
 use Rattle.rulebook.specs.Answers.{num, letter, fate_letter, answer_letter, answer_values}
 use Rattle.rulebook.specs.Words.{Start, book}
 use Rattle.rulebook.specs.Journal.{reply, answers, told, View, next, setting_of}
-use Rattle.rulebook.specs.Sheet.{january, business_days, three, rich, one_agent, registered, placement, stocked, next_day, transfer, inside, sale, sold, pledge}
+use Rattle.rulebook.specs.Sheet.{january, business_days, three, rich, registered, placement, stocked, next_day, transfer, inside, sale, sold, pledge}
 
 -- each of these calls on its own, behind the same calls before
 abbrev pub each : Start → List Call → List Call → List Answer

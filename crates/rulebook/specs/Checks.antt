@@ -1,5 +1,5 @@
 -- The checks of each call, in order: the first that fails is answered.
-use Rattle.std.specs.Prelude.{ℕ, ◌+◌, Bool, true, false, cond, not, ◌&&◌, ◌||◌, List, [], ◌∷◌, ◌++◌, length, is_some, Some, None, Ok, Err, Option, Result, ◌==◌, nat_le, nat_lt, slice_index_or}
+use Rattle.std.specs.Prelude.{ℕ, ◌+◌, Bool, true, false, cond, not, ◌&&◌, ◌||◌, List, [], ◌∷◌, length, is_some, Some, None, Ok, Err, Option, Result, ◌==◌, nat_le, nat_lt, slice_index_or}
 use Rattle.refusals.specs.declared.Refusal.{Refusal}
 use Rattle.refusals.specs.declared.Refusal.TheVariants.{WrongState, UnknownParticipant, WrongIssue, AmountLimits, WrongDate, InstructionShape, NoPlaceLeft, NotFound, OutstandingLimit, NominalShort, MoneyShort}
 use Rattle.calendar.specs.declared.Date.{Date}

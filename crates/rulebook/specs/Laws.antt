@@ -1,5 +1,5 @@
 -- What holds over every list of calls, in the subject's words.
-use Rattle.std.specs.Prelude.{◌≡◌, ℕ, ◌+◌, ◌<◌, ◌≤◌, Bool, true, false, cond, not, ◌&&◌, ◌||◌, ◌⊎◌, List, [], ◌∷◌, ◌++◌, map, length, Some, None, Option, ◌==◌, ◌≢◌, nat_le, nat_lt}
+use Rattle.std.specs.Prelude.{◌≡◌, ℕ, ◌+◌, ◌<◌, ◌≤◌, Bool, true, false, cond, not, ◌&&◌, ◌||◌, ◌⊎◌, List, [], ◌∷◌, ◌++◌, map, length, Some, Option, ◌==◌, ◌≢◌, nat_le, nat_lt}
 use Rattle.std.specs.List.{AllByRecursion}
 use Rattle.refusals.specs.declared.Refusal.{Refusal}
 use Rattle.refusals.specs.declared.Refusal.TheVariants.{WrongState, NominalShort, MoneyShort}
@@ -16,7 +16,7 @@ use Rattle.rulebook.specs.declared.Answer.{Answer}
 use Rattle.rulebook.specs.declared.Answer.TheVariants as answer
 use Rattle.rulebook.specs.States.{shut, on_a_day, on_no_day, Standing}
 use Rattle.rulebook.specs.Answers.{cause_number}
-use Rattle.rulebook.specs.Words.{one_if, total, sum_below, some_passes, Place, place, same, Payment, Leg, first, return, same_leg, Movement, placed, settled, redeemed, Amounts, Blocking, Instruction, alike, principal, Numbered, Setting, Book, Start, blocked, free, payment, priced, outstanding}
+use Rattle.rulebook.specs.Words.{one_if, total, sum_below, some_passes, Place, place, same, Payment, Leg, first, return, Movement, placed, settled, redeemed, Amounts, Blocking, Instruction, alike, principal, Numbered, Setting, Book, Start, blocked, free, payment, priced, outstanding}
 use Rattle.rulebook.specs.Checks.{Check, is_registered, date_of, matures, knows, affords, is_inside, is_on_a_day, has_serial}
 use Rattle.rulebook.specs.Matching.{joins, same_option, same_order, counter}
 use Rattle.rulebook.specs.Rounds.{giver, leg_payment, is_leg_done, is_leg_refused}

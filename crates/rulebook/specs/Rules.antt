@@ -1,5 +1,5 @@
 -- The rules: what each call answers, what book it leaves, and what it moves.
-use Rattle.std.specs.Prelude.{ℕ, ◌+◌, Bool, true, false, cond, not, List, [], ◌∷◌, ◌++◌, Some, None, Ok, Err, Option, Result, ◌==◌, slice_set}
+use Rattle.std.specs.Prelude.{ℕ, ◌+◌, cond, not, List, [], ◌∷◌, ◌++◌, Some, None, Ok, Err, Option, Result, ◌==◌, slice_set}
 use Rattle.refusals.specs.declared.Refusal.{Refusal}
 use Rattle.refusals.specs.declared.Refusal.TheVariants.{NotFound}
 use Rattle.calendar.specs.declared.Date.{Date}
@@ -15,7 +15,7 @@ use Rattle.rulebook.specs.declared.Call.TheVariants as call
 use Rattle.rulebook.specs.declared.Answer.{Answer}
 use Rattle.rulebook.specs.declared.Answer.TheVariants as answer
 use Rattle.rulebook.specs.States.{on_no_day, opened, closed, opening_date}
-use Rattle.rulebook.specs.Words.{found, Place, place, Movement, placed, redeemed, Amounts, Blocking, Instruction, Numbered, Setting, Book, book, blocked, payment, outstanding}
+use Rattle.rulebook.specs.Words.{found, place, Movement, placed, redeemed, Amounts, Blocking, Instruction, Numbered, Setting, Book, book, blocked, payment, outstanding}
 use Rattle.rulebook.specs.Checks.{Check, verdict, today, open_checks, issue_checks, place_checks, instruct_checks, cancel_checks, pledge_place, block_checks, is_blocking, release_checks, round_checks, close_checks, held, redeem_checks, has_serial, status_checks, holding_checks}
 use Rattle.rulebook.specs.Matching.{arrive, wake_all, stayers, cancelled_in}
 use Rattle.rulebook.specs.Rounds.{rounds, moved_to, is_leg_done, is_leg_refused, ended_all}

@@ -3,15 +3,13 @@ use Rattle.std.specs.Prelude.{◌≡◌, ℕ, ◌+◌, List, [], ◌∷◌, ◌+
 use Rattle.refusals.specs.declared.Refusal.TheVariants.{AmountLimits, WrongDate, InstructionShape, NominalShort, MoneyShort, NoPartner}
 use Rattle.calendar.specs.declared.Date.{Date}
 use Rattle.calendar.specs.Masks.{business_days as calendar-days}
-use Rattle.rulebook.specs.declared.Side.{Side}
 use Rattle.rulebook.specs.declared.Side.TheVariants.{Own, Customer}
 use Rattle.rulebook.specs.declared.Sender.{Sender}
 use Rattle.rulebook.specs.declared.Sender.TheVariants.{Transferor, Acquirer}
-use Rattle.rulebook.specs.declared.Order.{Order}
 use Rattle.rulebook.specs.declared.Fate.TheVariants as fate
 use Rattle.rulebook.specs.declared.Call.{Call}
 use Rattle.rulebook.specs.declared.Call.TheVariants.{Opening, NewIssue, Placing, Instructing, Blocking, Round, Closing, AskingStatus}
-use Rattle.rulebook.specs.declared.Answer.TheVariants.{Placed, Instructed, Blocked, RoundMade, Closed, Status, Refused}
+use Rattle.rulebook.specs.declared.Answer.TheVariants.{Placed, Instructed, Blocked, RoundMade, Status, Refused}
 use Rattle.rulebook.specs.Words.{Start}
 use Rattle.rulebook.specs.Journal.{reply}
 

@@ -1,5 +1,5 @@
 -- The words of the register: places, movements, amounts, and the book that keeps all but the amounts.
-use Rattle.std.specs.Prelude.{ℕ, zero, suc, ◌+◌, ◌-◌, Bool, true, false, cond, ◌&&◌, ◌||◌, List, [], ◌∷◌, ◌++◌, Some, None, Option, ◌==◌, slice_index}
+use Rattle.std.specs.Prelude.{ℕ, zero, suc, ◌+◌, ◌-◌, Bool, true, false, cond, ◌&&◌, ◌||◌, List, [], ◌∷◌, Some, None, Option, ◌==◌, slice_index}
 use Rattle.refusals.specs.declared.Refusal.{Refusal}
 use Rattle.calendar.specs.declared.Date.{Date}
 use Rattle.money.specs.Funds.{Funds}
@@ -7,7 +7,6 @@ use Rattle.rulebook.specs.declared.Side.{Side}
 use Rattle.rulebook.specs.declared.Side.TheVariants.{Own, Customer}
 use Rattle.rulebook.specs.declared.Order.{Order}
 use Rattle.rulebook.specs.declared.Fate.{Fate}
-use Rattle.rulebook.specs.declared.Fate.TheVariants as fate
 use Rattle.rulebook.specs.States.{Standing}
 use Rattle.rulebook.specs.Answers.{fate_letter, behind_fate}
 

@@ -1,5 +1,5 @@
-use Rattle.std.proofs.Common.{◌≡◌, ap, ◌∙◌}
-use Rattle.desk.specs.Letters.{takes, call_letter}
+use Rattle.std.proofs.Common.{ap, ◌∙◌}
+use Rattle.desk.specs.Letters.{takes}
 use Rattle.desk.proofs.Suited.{letters_suit}
 use Rattle.desk.proofs.letters.suits.Goals as goal
 

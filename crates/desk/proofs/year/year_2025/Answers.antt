@@ -1,4 +1,4 @@
-use Rattle.std.proofs.Common.{refl, ap, ◌∙◌}
+use Rattle.std.proofs.Common.{ap, ◌∙◌}
 use Rattle.calendar.specs.Masks.{business_days}
 use Rattle.desk.proofs.year.year_2025.Goals as goal
 

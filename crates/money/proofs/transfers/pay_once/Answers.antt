@@ -1,4 +1,4 @@
-use Rattle.std.proofs.Common.{◌≡◌, Result, sym, subst}
+use Rattle.std.proofs.Common.{◌≡◌, Result}
 use Rattle.refusals.specs.declared.Refusal.{Refusal}
 use Rattle.money.specs.declared.transfers.Payment.{Payment}
 use Rattle.money.specs.Funds.{Funds}

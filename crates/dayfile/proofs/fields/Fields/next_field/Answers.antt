@@ -1,7 +1,7 @@
-use Rattle.std.proofs.Common.{◌≡◌, ℕ, ◌+◌, ◌-◌, ◌≤◌, List, [], ◌∷◌, length, take, drop, Some, sym, refl, ap, ◌∙◌, arith}
+use Rattle.std.proofs.Common.{◌≡◌, ◌+◌, ◌-◌, ◌∷◌, take, Some, sym, ap, ◌∙◌}
 use Rattle.std.proofs.lemmas.List.{take_rest}
 use Rattle.dayfile.specs.Text.{fields, first_of, rest_of}
-use Rattle.dayfile.specs.Looks.{Look, look_of, numbered, next_number}
+use Rattle.dayfile.specs.Looks.{look_of, numbered, next_number}
 use Rattle.dayfile.specs.Readers.{parts_left, look}
 use Rattle.dayfile.proofs.Cuts.{field_mark, field_last}
 use Rattle.dayfile.proofs.fields.Fields.next_field.Goals as goal

@@ -1,4 +1,4 @@
-use Rattle.std.proofs.Common.{◌≡◌, ℕ, ◌<◌, length, vec_items, sym, refl, ap, subst, arith}
+use Rattle.std.proofs.Common.{ℕ, ◌<◌, length, vec_items, sym, refl, ap, subst, arith}
 use Rattle.std.specs.List.{AllByRecursion}
 use Rattle.std.proofs.ByRecursion.{All-get_or, All-more}
 use Rattle.money.specs.Agents.{of_agents}

@@ -1,7 +1,7 @@
-use Rattle.std.proofs.Common.{◌≡◌, ◌<◌, ◌≤◌, true, false, ◌⊎◌, get_or, vec_items, vec_len, sym, ap, ◌∙◌, inl, inr, ⊎_elim, arith}
+use Rattle.std.proofs.Common.{◌<◌, ◌≤◌, ◌⊎◌, get_or, vec_items, vec_len, sym, ap, ◌∙◌, inl, inr, ⊎_elim, arith}
 use Rattle.std.proofs.lemmas.List.{get_or_read}
 use Rattle.std.proofs.lemmas.Bool.{leb-true, leb-false, eqb-true, eqb-false}
-use Rattle.money.specs.Funds.{answered, left, payable}
+use Rattle.money.specs.Funds.{answered, left}
 use Rattle.money.specs.Ledger.{of_ledger}
 use Rattle.money.proofs.Ledgers.{pays_unknown, pays_amount, pays_same, pays_short, pays_moved}
 use Rattle.money.proofs.ledger.entries.LedgerMoney.pay.Goals as goal
