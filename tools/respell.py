@@ -17,6 +17,8 @@ from pathlib import Path
 TOP = Path(sys.argv[1] if len(sys.argv) > 1 else ".")
 # bound names, which no declaration shows
 BOUND = "return-price taker-side giver-side round-of blocked-own blocked-customer in-month in-year no-nominal no-money no-leg".split()
+# a fact whose name the kit's script spelled as a word
+OTHERS = {"Goes_on": "GoesOn"}
 WORD = r"[A-Za-z_][\w'«»]*(?:-[\w'«»]+)*"
 DECLARED = re.compile(rf"^\s*(?:(?:pub|abbrev|unfoldable|pattern)\s+)*(?:(?:record|data)\s+)?({WORD})\s*(?::|\(|\{{)")
 GOAL = re.compile(r":\s*(?:goal|given)\.")
@@ -43,8 +45,8 @@ def respelled(name):
 
 
 def main():
-    names = sorted({name for path in antt_files() for name in declared(path)} | set(BOUND) - {"All-append"})
-    table = {name: respelled(name) for name in names}
+    names = sorted(({name for path in antt_files() for name in declared(path)} | set(BOUND)) - {"All-append"})
+    table = {name: respelled(name) for name in names} | OTHERS
     spelled = {}
     for path in antt_files():
         for token in TOKEN.findall(path.read_text()):

@@ -14,7 +14,7 @@ use Rattle.rulebook.specs.Words.{Book}
 use Rattle.rulebook.specs.Checks.{verdict, is_shut}
 use Rattle.rulebook.specs.Rules.{Outcome, ruled, work, answer_by, book_by}
 use Rattle.rulebook.specs.Journal.{View, next}
-use Rattle.rulebook.specs.Laws.{Goes_on, DaysPass}
+use Rattle.rulebook.specs.Laws.{GoesOn, DaysPass}
 use Rattle.rulebook.proofs.Answering.{rule_both}
 
 -- none from n on is found: all are below n
@@ -60,25 +60,25 @@ next_alone n d low (b ∷ bs) r e = go (leb (n + 1) b) refl e (next_alone n d b 
 
 -- from the last business day to what the calendar has next
 went : (days : List ℕ) (s : Standing) → RisingAbove 0 days → (o : Option ℕ) → next_after s.day days ≡ o
-    → Goes_on days s.day (opening_date o) (opened_on o s).day
+    → GoesOn days s.day (opening_date o) (opened_on o s).day
 went days s r None e = inl (refl, refl, none_later s.day days e)
 went days s r (Some d) e = let h = next_alone s.day d 0 days r e in inr (h.0, h.1, refl)
 
 opening : (v : View) (d : Date) → RisingAbove 0 v.setting.days → (next v call.Opening).1 ≡ answer.Opened d
-    → Goes_on v.setting.days v.book.standing.day d.number (next v call.Opening).0.book.standing.day
+    → GoesOn v.setting.days v.book.standing.day d.number (next v call.Opening).0.book.standing.day
 opening v d r e = go (is_shut v.book) e
   where
     done : Outcome
     done = work v.setting v.amounts v.book call.Opening
 
     go : (t : Bool) → answer_by (ruled (verdict ((t, WrongState) ∷ [])) done) ≡ answer.Opened d
-        → Goes_on v.setting.days v.book.standing.day d.number (book_by v.book (ruled (verdict ((t, WrongState) ∷ [])) done)).standing.day
+        → GoesOn v.setting.days v.book.standing.day d.number (book_by v.book (ruled (verdict ((t, WrongState) ∷ [])) done)).standing.day
     go true f =
         let s = v.book.standing in
         let days = v.setting.days in
         let o = next_after s.day days in
         let h : opening_date o ≡ d.number = cc in
-        subst (λ n. Goes_on days s.day n (opened_on o s).day) h (went days s r o refl)
+        subst (λ n. GoesOn days s.day n (opened_on o s).day) h (went days s r o refl)
     go false f = let z : ◌≡◌ {A = ℕ} 0 1 = cc in absurd (omega arith)
 
 -- the book's day is as it was

@@ -372,8 +372,8 @@ CausesSuit =
     → AllByRecursion (λ i. cause_suits i.fate i.cause ≡ true) (accepted (history s cs))
 
 -- opening goes to the one business day that comes next, or, where none is later, to no day
-abbrev pub Goes_on : List ℕ → ℕ → ℕ → ℕ → Type 0
-Goes_on days before answered after =
+abbrev pub GoesOn : List ℕ → ℕ → ℕ → ℕ → Type 0
+GoesOn days before answered after =
     ((answered ≡ 0) × (after ≡ before) × AllByRecursion (λ b. b ≤ before) days)
     ⊎ ((is_business answered days ≡ true) × (count_between before answered days ≡ 1) × (after ≡ answered))
 
@@ -382,7 +382,7 @@ pub record DaysPass : Type 0 where
   pub opening : (v : View) (d : Date)
       → RisingAbove 0 v.setting.days
       → (next v call.Opening).1 ≡ answer.Opened d
-      → Goes_on v.setting.days v.book.standing.day d.number (next v call.Opening).0.book.standing.day
+      → GoesOn v.setting.days v.book.standing.day d.number (next v call.Opening).0.book.standing.day
   pub others : (v : View) (c : Call)
       → (c ≢ call.Opening)
       → (next v c).0.book.standing.day ≡ v.book.standing.day
