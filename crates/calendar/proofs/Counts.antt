@@ -1,16 +1,16 @@
 -- Business days counted by the bits of the masks.
-use Rattle.std.proofs.Common.{◌≡◌, ℕ, zero, suc, ◌+◌, ◌-◌, ◌*◌, ◌/◌, ◌%◌, ◌^◌, ◌<◌, ◌≤◌, Bool, true, false, cond, ◌&&◌, eqb, ltb, leb, List, [], ◌∷◌, ◌++◌, length, get_or, drop, sym, refl, ap, ◌∙◌, ⊎_elim, mod-eq_of_lt, add-one, arith, pow_mono}
+use Rattle.std.proofs.Common.{◌≡◌, ℕ, zero, suc, ◌+◌, ◌-◌, ◌*◌, ◌/◌, ◌%◌, ◌^◌, ◌<◌, ◌≤◌, Bool, true, false, cond, ◌&&◌, eqb, ltb, leb, List, [], ◌∷◌, ◌++◌, length, sum_by, sym, refl, ap, ◌∙◌, ⊎_elim, mod-eq_of_lt, add-one, arith, pow_mono}
 use native.Mathlib.Nat.{zero-mod, mod-one}
 use lib.Arith.{lt-one}
 use lib.Bits.{bit_and}
 use lib.Count.{ones, ones_step, ones-le}
 use Rattle.std.proofs.lemmas.Nat.{and_mask, and_le_l, one_shl, mod-pow-add, shr-shr, shr_below, div-mul-add, mod-mul-add, mod_below}
-use Rattle.std.proofs.lemmas.List.{at_drop_more}
-use Rattle.std.proofs.lemmas.Bool.{cases_lt}
+use Rattle.std.specs.List.{enumerate_from}
+use Rattle.std.proofs.lemmas.List.Sums.{sum_by-cons}
+use Rattle.std.proofs.lemmas.Bool.{cases_lt, and_parts, ltb-true}
 use Rattle.std.proofs.lemmas.Bool.Decides.{nat_tests}
 use Rattle.calendar.specs.Days.{passing, count_upto, count_between}
 use Rattle.calendar.specs.Masks.{is_set, number_of, length_of, days_from, days_in, months_from, within_months}
-use Rattle.calendar.proofs.Walks.{within_rest}
 
 -- the low bits of a mask, as the code takes them
 pub low_ones : (mask days k : ℕ) → days < 32 → days ≡ k → ones (bit_and mask ((1 * 2 ^ days) % 4294967296 - 1)) ≡ ones (mask % 2 ^ k)
@@ -90,15 +90,19 @@ count_month month mask x n h =
     let start : month + 0 ≡ month = omega arith in
     count_days month mask x n 0 short ∙ ap (λ b. ones (b % 2 ^ (x - (month + 0)))) whole ∙ ap (λ m. ones (mask % 2 ^ (x - m))) start
 
--- the months from i on, one month on
-pub count_more : (first : ℕ) (xs : List ℕ) (i x : ℕ) → i < length xs → within_months first i (drop i xs) ≡ true
-    → count_upto x (months_from first i (drop i xs))
-    ≡ ones (get_or xs i 0 % 2 ^ (x - number_of first i)) + count_upto x (months_from first (i + 1) (drop (i + 1) xs))
-count_more first xs i x h w =
-    at_drop_more (λ ms. count_upto x (months_from first i ms)) xs i 0 h
-    ∙ count_append (λ b. leb b x) (days_in first i (get_or xs i 0)) (months_from first (i + 1) (drop (i + 1) xs))
-    ∙ ap (λ n. n + count_upto x (months_from first (i + 1) (drop (i + 1) xs)))
-    (count_month (number_of first i) (get_or xs i 0) x (length_of first i) (within_rest first xs i h w).0)
+-- the business days of the months from i on are counted month by month
+pub months_counted : (first x i : ℕ) (masks : List ℕ) → within_months first i masks ≡ true
+    → sum_by (λ p. ones (p.1 % 2 ^ (x - number_of first p.0))) (enumerate_from i masks) ≡ count_upto x (months_from first i masks)
+months_counted first x i [] w = refl
+months_counted first x i (mask ∷ masks) w =
+    let p = and_parts (ltb mask (2 ^ length_of first i)) (within_months first (i + 1) masks) w in
+    omega (
+      arith,
+      sum_by-cons (λ (q : ℕ × ℕ). ones (q.1 % 2 ^ (x - number_of first q.0))) (i, mask) (enumerate_from (i + 1) masks),
+      count_month (number_of first i) mask x (length_of first i) (ltb-true mask (2 ^ length_of first i) p.0),
+      months_counted first x (i + 1) masks p.1,
+      count_append (λ b. leb b x) (days_in first i mask) (months_from first (i + 1) masks),
+    )
 
 -- the days after one date and up to another
 between_some : (after upto : ℕ) → after ≤ upto → (bs : List ℕ) → count_between after upto bs + count_upto after bs ≡ count_upto upto bs

@@ -1,5 +1,5 @@
 -- Business days rise, and each is a calendar date.
-use Rattle.std.proofs.Common.{◌≡◌, ℕ, zero, suc, ◌+◌, ◌-◌, ◌/◌, ◌%◌, ◌<◌, ◌≤◌, Bool, true, false, cond, ◌&&◌, ◌||◌, eqb, leb, List, [], ◌∷◌, ◌++◌, get_or, Some, None, refl, ap, ◌∙◌, add-suc, arith}
+use Rattle.std.proofs.Common.{◌≡◌, ℕ, zero, suc, ◌+◌, ◌-◌, ◌/◌, ◌%◌, ◌<◌, ◌≤◌, Bool, true, false, cond, ◌&&◌, ◌||◌, eqb, leb, List, [], ◌∷◌, ◌++◌, get_or, Some, None, Option, sym, refl, ap, ◌∙◌, add-suc, arith}
 use Rattle.std.specs.List.{AllByRecursion}
 use Rattle.std.proofs.lemmas.Bool.{and_from, le-leb, leb-true, cond_both}
 use Rattle.std.proofs.lemmas.Bool.Decides.{nat_tests}
@@ -70,6 +70,11 @@ pub below_none : (d low : ℕ) (bs : List ℕ) → RisingAbove low bs → d ≤ 
 below_none d low [] r h = refl
 below_none d low (b ∷ bs) r h = grind (arith, nat_tests, r.0, below_none d b bs r.1 (omega (arith, r.0)))
 
+-- whether a search from a date finds the date itself
+abbrev pub is_first : ℕ → Option ℕ → Bool
+is_first d None = false
+is_first d (Some n) = eqb n d
+
 -- a date is a business day exactly if it is the first one from itself on
 pub business_found : (d n low : ℕ) (bs : List ℕ) → RisingAbove low bs → first_from d bs ≡ Some n → is_business d bs ≡ eqb n d
 business_found d n low [] r h = let z : ◌≡◌ {A = ℕ} 0 1 = cc in absurd (omega arith)
@@ -91,3 +96,10 @@ business_passed d (b ∷ bs) h = go (leb d b) refl h (λ e. business_passed d bs
         → (eqb b d || is_business d bs) ≡ false
     go true e found rest = let z : ◌≡◌ {A = ℕ} 0 1 = cc in absurd (omega arith)
     go false e found rest = let on : is_business d bs ≡ false = rest found in grind (arith, nat_tests)
+
+pub business_first : (d : ℕ) (bs : List ℕ) → RisingAbove 0 bs → is_first d (first_from d bs) ≡ is_business d bs
+business_first d bs r = go (first_from d bs) refl
+  where
+    go : (o : Option ℕ) → first_from d bs ≡ o → is_first d o ≡ is_business d bs
+    go None h = sym (business_passed d bs h)
+    go (Some n) h = sym (business_found d n 0 bs r h)

@@ -1,3 +1,4 @@
+pub mod Searches
 pub mod Walks
 pub mod Counts
 pub mod Laws

@@ -6,7 +6,7 @@ use Rattle.calendar.specs.Masks.{business_days}
 
 -- the business days of a calendar, in order
 abbrev pub days_of : Calendar → List ℕ
-days_of c = business_days c.first (vec_items c.masks)
+days_of c = business_days c.months.first (vec_items c.months.masks)
 
 -- an answer as a date
 abbrev pub dated : Option ℕ → Option Date

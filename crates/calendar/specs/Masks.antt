@@ -1,5 +1,6 @@
 -- The business days that month masks stand for.
-use Rattle.std.specs.Prelude.{◌≡◌, ℕ, zero, suc, ◌+◌, ◌-◌, ◌*◌, ◌/◌, ◌%◌, ◌^◌, Bool, true, false, cond, ◌&&◌, ◌||◌, List, [], ◌∷◌, ◌++◌, length, ◌==◌, nat_le, nat_lt, slice_index}
+use Rattle.std.specs.Prelude.{◌≡◌, ℕ, zero, suc, ◌+◌, ◌-◌, ◌*◌, ◌/◌, ◌%◌, ◌^◌, Bool, cond, ◌&&◌, List, [], ◌∷◌, ◌++◌, length, ◌==◌, nat_le, nat_lt, slice_index}
+use Rattle.std.specs.List.{enumerate_from, list_all, list_any}
 use Rattle.calendar.specs.Days.{month_length, month_number, is_date, is_business, LawfulDays}
 
 -- months are counted from 0, twelve to a year: a month's number YYYYMM00
@@ -35,13 +36,11 @@ business_days first masks = months_from first 0 masks
 
 -- no mask of the months from i on sets a bit past its month's end
 abbrev pub within_months : ℕ → ℕ → List ℕ → Bool
-within_months first i [] = true
-within_months first i (mask ∷ masks) = nat_lt mask (2 ^ length_of first i) && within_months first (i + 1) masks
+within_months first i masks = list_all (λ p. nat_lt p.1 (2 ^ length_of first p.0)) (enumerate_from i masks)
 
 -- some mask sets a bit
 abbrev pub some_set : List ℕ → Bool
-some_set [] = false
-some_set (mask ∷ masks) = nat_lt 0 mask || some_set masks
+some_set masks = list_any (λ mask. nat_lt 0 mask) masks
 
 -- what makes a calendar: years within the limits, a mask for each month and none past its end, and a business day
 abbrev pub fits : ℕ → ℕ → List ℕ → Bool

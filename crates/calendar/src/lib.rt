@@ -1,17 +1,28 @@
 // Business days from month masks.
 #![tactic(auto)]
 
-ghost use Rattle.std.specs.Prelude.{◌≡◌, ◌≤◌};
+ghost use Rattle.std.specs.Prelude.{◌≡◌, ◌≤◌, Some};
+ghost use Rattle.std.specs.Fmt.{decimal};
 ghost use Rattle.calendar.specs.Days.{month_length, is_date};
 
 mod years;
 
+use std::fmt;
 pub use years::Calendar;
 
-// A date as the number YYYYMMDD; 0 stands for no day.
-#[derive(Clone, Copy)]
+// A date as the number YYYYMMDD; the number need not name a day.
+#[derive(Clone, Copy, Debug, PartialEq, Eq, PartialOrd, Ord, Hash)]
 pub struct Date {
     pub number: u32,
+}
+
+// A date is written as its number.
+impl fmt::Display for Date {
+    ghost output = { λ d. Some (decimal d.number) };
+
+    fn fmt<W: fmt::Write>(&self, f: &mut fmt::Formatter<W>) -> fmt::Result {
+        write!(f, "{}", self.number)
+    }
 }
 
 impl Date {
@@ -19,12 +30,10 @@ impl Date {
     pub fn is_date(self) -> bool
         ensures { result ≡ is_date self.number }
     {
+        let year = self.number / 10000;
         let month = self.number / 100 % 100;
         let day = self.number % 100;
-        if month < 1 || month > 12 {
-            return false;
-        }
-        1 <= day && day <= month_length(self.number / 10000, month)
+        (1..=12).contains(&month) && (1..=month_length(year, month)).contains(&day)
     }
 }
 

@@ -1,15 +1,20 @@
 ghost use Rattle.std.specs.Prelude.{◌≡◌, ◌≤◌, true, vec_len};
 ghost use Rattle.calendar.specs.Masks.{within_months};
 
-// The business days of some years: the first year, and a mask for each month, whose bit of weight 2^(d-1) stands for
-// day d.
+// The months from January of the first year on: a mask for each, whose bit of weight 2^(d-1) stands for day d.
 #[derive(Drop)]
-pub struct Calendar {
+struct MonthMasks {
     first: u32,
     masks: Vec<u32>,
     ghost early: { first ≤ 2080 },
     ghost few: { vec_len masks ≤ 240 },
-    ghost within: { within_months first 0 masks.items ≡ true },
+}
+
+// The business days of some years, whose months set no bit past their ends.
+#[derive(Drop)]
+pub struct Calendar {
+    months: MonthMasks,
+    ghost within: { within_months months.first 0 months.masks.items ≡ true },
 }
 
 mod methods;

@@ -6,8 +6,7 @@ ghost use Rattle.calendar.specs.Masks.{fits, Made};
 ghost use Rattle.calendar.specs.Calendars.{days_of, dated};
 
 use crate::Date;
-use crate::years::Calendar;
-use crate::years::months::{count_upto, first_from, fits};
+use crate::years::{Calendar, MonthMasks};
 use refusals::Refusal;
 
 impl Calendar {
@@ -17,23 +16,27 @@ impl Calendar {
         ensures limits { is_ok result ≡ fits first_year years masks.items }
         ensures cases { MatchResult result (λ c. Made first_year masks.items (days_of c)) (λ e. e ≡ CalendarLimits) }
     {
-        if !fits(first_year, years, masks.as_slice()) {
+        if !(2000..=2080).contains(&first_year)
+            || !(1..=20).contains(&years)
+            || masks.len() != 12 * years
+        {
             return Err(Refusal::CalendarLimits);
         }
-        Ok(Calendar {
+        let months = MonthMasks {
             first: first_year,
             masks,
-        })
+        };
+        if !months.all_within() || !months.some_set() {
+            return Err(Refusal::CalendarLimits);
+        }
+        Ok(Calendar { months })
     }
 
     // Whether a date is a business day.
     pub fn is_business_day(&self, date: Date) -> bool
         ensures { result ≡ is_business date.number (days_of self.now) }
     {
-        match first_from(self.first, self.masks.as_slice(), u64::from(date.number)) {
-            Some(day) => day == date.number,
-            None => false,
-        }
+        self.first_from(date) == Some(date)
     }
 
     // The first business day on or after a date.
@@ -63,16 +66,13 @@ impl Calendar {
     fn count_upto(&self, date: Date) -> u32
         ensures { result ≡ count_upto date.number (days_of self.now) }
     {
-        count_upto(self.first, self.masks.as_slice(), date.number)
+        self.months.count_upto(date.number)
     }
 
     // The first business day whose number is at least `from`.
     fn find(&self, from: u64) -> Option<Date>
         ensures { result ≡ dated (first_from from (days_of self.now)) }
     {
-        match first_from(self.first, self.masks.as_slice(), from) {
-            Some(number) => Some(Date { number }),
-            None => None,
-        }
+        self.months.first_from(from).map(|number| Date { number })
     }
 }

@@ -1,127 +1,113 @@
 // Single months, and lists of months.
 ghost use Rattle.std.specs.Prelude.{◌≡◌, ◌+◌, ◌-◌, ◌%◌, ◌^◌, ◌<◌, ◌≤◌, true, length, count_ones, nat_lt};
 ghost use Rattle.calendar.specs.Days.{first_from, count_upto};
-ghost use Rattle.calendar.specs.Masks.{number_of, length_of, days_from, business_days, within_months, some_set, fits};
+ghost use Rattle.calendar.specs.Masks.{number_of, length_of, is_set, days_from, business_days, within_months, some_set, fits};
 
+use super::MonthMasks;
 use crate::month_length;
 
-// A month of a calendar: its number YYYYMM00, and its length.
+// A month of a calendar: its number YYYYMM00, its length, and the mask of its business days.
 #[derive(Clone, Copy)]
 struct Month {
     number: u32,
     length: u32,
-}
-
-// A calendar's month, counted from 0.
-fn month_at(first: u32, i: usize) -> Month
-    requires { (first ≤ 2080) × (i < 240) }
-    ensures number { result.number ≡ number_of first i }
-    ensures long { result.length ≡ length_of first i }
-    ensures early { result.number ≤ 21000000 }
-    ensures short { result.length ≤ 31 }
-{
-    let year = first + (i / 12) as u32;
-    let month = (i % 12) as u32 + 1;
-    Month {
-        number: year * 10000 + month * 100,
-        length: month_length(year, month),
-    }
+    mask: u32,
+    ghost early: { number ≤ 21000000 },
+    ghost short: { length ≤ 31 },
 }
 
 impl Month {
-    // Whether a mask sets no bit past the month's end.
-    fn has_room(self, mask: u32) -> bool
-        requires { self.length ≤ 31 }
-        ensures { result ≡ nat_lt mask (2 ^ self.length) }
+    // Whether the mask sets no bit past the month's end.
+    fn has_room(self) -> bool
+        ensures { result ≡ nat_lt self.mask (2 ^ self.length) }
     {
-        mask < 1u32 << self.length
+        self.mask < 1u32 << self.length
+    }
+
+    // Whether the bit of a day is set.
+    fn is_set(self, day: u32) -> bool
+        requires { (1 ≤ day) × (day ≤ 32) }
+        ensures { result ≡ is_set self.mask day }
+    {
+        (self.mask >> (day - 1)) % 2 == 1
     }
 
     // The first business day whose number is at least `from`.
-    fn first_from(self, mask: u32, from: u64) -> Option<u32>
-        requires { (self.number ≤ 21000000) × (self.length ≤ 31) }
-        ensures { result ≡ first_from from (days_from self.number mask 1 self.length) }
+    fn first_from(self, from: u64) -> Option<u32>
+        ensures { result ≡ first_from from (days_from self.number self.mask 1 self.length) }
     {
-        let end = self.length + 1;
-        for day in 1..end {
-            let number = self.number + day;
-            if (mask >> (day - 1)) % 2 == 1 && u64::from(number) >= from {
-                return Some(number);
-            }
-        }
-        None
+        (1..self.length + 1)
+            .find(|day| self.is_set(*day) && u64::from(self.number + *day) >= from)
+            .map(|day| self.number + day)
     }
 
     // How many bits are set for days whose number is at most `upto`.
-    fn count_upto(self, mask: u32, upto: u32) -> u32
-        ensures is { result ≡ count_ones (mask % 2 ^ (upto - self.number)) }
+    fn count_upto(self, upto: u32) -> u32
+        ensures is { result ≡ count_ones (self.mask % 2 ^ (upto - self.number)) }
         ensures few { result ≤ 32 }
     {
         let days = upto.saturating_sub(self.number);
         if days < 32 {
-            (mask & ((1u32 << days) - 1)).count_ones()
+            (self.mask & ((1u32 << days) - 1)).count_ones()
         } else {
-            mask.count_ones()
+            self.mask.count_ones()
         }
     }
 }
 
-// Whether no mask sets a bit past its month's end.
-fn within_months(first: u32, masks: &[u32]) -> bool
-    requires { (first ≤ 2080) × (length masks.now ≤ 240) }
-    ensures { result ≡ within_months first 0 masks.now }
-{
-    for (i, mask) in masks.iter().enumerate() {
-        if !month_at(first, i).has_room(*mask) {
-            return false;
+impl MonthMasks {
+    // The month of a place, counted from 0, with its mask.
+    fn month(&self, i: usize, mask: u32) -> Month
+        requires { i < 240 }
+        ensures number { result.number ≡ number_of self.now.first i }
+        ensures long { result.length ≡ length_of self.now.first i }
+        ensures marks { result.mask ≡ mask }
+    {
+        let year = self.first + (i / 12) as u32;
+        let month = (i % 12) as u32 + 1;
+        Month {
+            number: year * 10000 + month * 100,
+            length: month_length(year, month),
+            mask,
         }
     }
-    true
-}
 
-// Whether some mask sets a bit.
-fn some_set(masks: &[u32]) -> bool
-    ensures { result ≡ some_set masks.now }
-{
-    for mask in masks {
-        if *mask > 0 {
-            return true;
-        }
+    // Whether no mask sets a bit past its month's end.
+    pub(super) fn all_within(&self) -> bool
+        ensures { result ≡ within_months self.now.first 0 self.now.masks.items }
+    {
+        self.masks
+            .iter()
+            .enumerate()
+            .all(|(i, mask)| self.month(i, *mask).has_room())
     }
-    false
-}
 
-// Whether years and masks make a calendar.
-pub(super) fn fits(first: u32, years: usize, masks: &[u32]) -> bool
-    ensures { result ≡ fits first years masks.now }
-{
-    if first < 2000 || first > 2080 || years < 1 || years > 20 || masks.len() != 12 * years {
-        return false;
+    // Whether some mask sets a bit.
+    pub(super) fn some_set(&self) -> bool
+        ensures { result ≡ some_set self.now.masks.items }
+    {
+        self.masks.iter().any(|mask| *mask > 0)
     }
-    within_months(first, masks) && some_set(masks)
-}
 
-// The number of the first business day whose number is at least `from`.
-pub(super) fn first_from(first: u32, masks: &[u32], from: u64) -> Option<u32>
-    requires { (first ≤ 2080) × (length masks.now ≤ 240) }
-    ensures { result ≡ first_from from (business_days first masks.now) }
-{
-    for (i, mask) in masks.iter().enumerate() {
-        if let Some(day) = month_at(first, i).first_from(*mask, from) {
-            return Some(day);
-        }
+    // The number of the first business day whose number is at least `from`.
+    pub(super) fn first_from(&self, from: u64) -> Option<u32>
+        ensures { result ≡ first_from from (business_days self.now.first self.now.masks.items) }
+    {
+        self.masks
+            .iter()
+            .enumerate()
+            .find_map(|(i, mask)| self.month(i, *mask).first_from(from))
     }
-    None
-}
 
-// How many business days lie up to a date.
-pub(super) fn count_upto(first: u32, masks: &[u32], upto: u32) -> u32
-    requires { (first ≤ 2080) × ((length masks.now ≤ 240) × (within_months first 0 masks.now ≡ true)) }
-    ensures { result ≡ count_upto upto (business_days first masks.now) }
-{
-    let mut count = 0;
-    for (i, mask) in masks.iter().enumerate() {
-        count += month_at(first, i).count_upto(*mask, upto);
+    // How many business days lie up to a date.
+    pub(super) fn count_upto(&self, upto: u32) -> u32
+        requires { within_months self.now.first 0 self.now.masks.items ≡ true }
+        ensures { result ≡ count_upto upto (business_days self.now.first self.now.masks.items) }
+    {
+        self.masks
+            .iter()
+            .enumerate()
+            .map(|(i, mask)| self.month(i, *mask).count_upto(upto))
+            .sum()
     }
-    count
 }
