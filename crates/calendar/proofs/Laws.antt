@@ -97,9 +97,14 @@ business_passed d (b ∷ bs) h = go (leb d b) refl h (λ e. business_passed d bs
     go true e found rest = let z : ◌≡◌ {A = ℕ} 0 1 = cc in absurd (omega arith)
     go false e found rest = let on : is_business d bs ≡ false = rest found in grind (arith, nat_tests)
 
+-- a date is a business day exactly if a search from it finds the date itself
 pub business_first : (d : ℕ) (bs : List ℕ) → RisingAbove 0 bs → is_first d (first_from d bs) ≡ is_business d bs
 business_first d bs r = go (first_from d bs) refl
   where
     go : (o : Option ℕ) → first_from d bs ≡ o → is_first d o ≡ is_business d bs
     go None h = sym (business_passed d bs h)
     go (Some n) h = sym (business_found d n 0 bs r h)
+
+-- the same for the business days of masks
+pub calendar_first : (d first : ℕ) (masks : List ℕ) → is_business d (business_days first masks) ≡ is_first d (first_from d (business_days first masks))
+calendar_first d first masks = sym (business_first d (business_days first masks) (lawful first masks).0)

@@ -5,8 +5,8 @@ use Rattle.std.proofs.lemmas.Bool.{and_parts, leb-true, leb-false, ne_eqb, true�
 use Rattle.std.proofs.lemmas.Nat.{div-mul-add, mod-mul-add}
 use Rattle.std.proofs.lemmas.Bool.Decides.{nat_tests}
 use Rattle.calendar.specs.Days.{month_length, is_date, is_business, AllDates}
-use Rattle.calendar.specs.Masks.{is_set, number_of, length_of, days_from, days_in, months_from, business_days, AsMarked}
-use Rattle.calendar.proofs.Laws.{rising_months, dates_months, below_none, short}
+use Rattle.calendar.specs.Masks.{is_set, number_of, length_of, days_from, days_in, months_from, business_days, AsMarked, Made}
+use Rattle.calendar.proofs.Laws.{rising_months, dates_months, below_none, short, lawful}
 
 business_append : (x : ℕ) (xs ys : List ℕ) → is_business x (xs ++ ys) ≡ (is_business x xs || is_business x ys)
 business_append x [] ys = refl
@@ -127,3 +127,7 @@ as_marked first masks n = go (is_date n) refl (leb first (n / 10000)) refl
     go true e true f =
         let p = date_parts n e in
         date_marked first masks n (n / 10000) (n / 100 % 100) refl refl (leb-true first (n / 10000) f) p.0 p.1 p.2 p.3
+
+-- the business days of any masks are those of a new calendar
+pub made : (first : ℕ) (masks : List ℕ) → Made first masks (business_days first masks)
+made first masks = record { same = refl; lawful = lawful first masks; marked = as_marked first masks }

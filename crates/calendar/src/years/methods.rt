@@ -12,6 +12,7 @@ use refusals::Refusal;
 impl Calendar {
     // A calendar of some years from the masks of their months. It is refused exactly if it breaks the limits, if a mask
     // sets a bit past its month's end, or if no bit is set.
+    #[tactic(auto, using(crate::proofs::Marks::made))]
     pub fn new(first_year: u32, years: usize, masks: Vec<u32>) -> Result<Calendar, Refusal>
         ensures limits { is_ok result ≡ fits first_year years masks.items }
         ensures cases { MatchResult result (λ c. Made first_year masks.items (days_of c)) (λ e. e ≡ CalendarLimits) }
@@ -33,6 +34,7 @@ impl Calendar {
     }
 
     // Whether a date is a business day.
+    #[tactic(auto, using(crate::proofs::Laws::calendar_first))]
     pub fn is_business_day(&self, date: Date) -> bool
         ensures { result ≡ is_business date.number (days_of self.now) }
     {
@@ -54,6 +56,7 @@ impl Calendar {
     }
 
     // How many business days lie after one date and up to another.
+    #[tactic(auto, using(crate::proofs::Counts::between))]
     pub fn count_between(&self, after: Date, upto: Date) -> u32
         ensures { result ≡ count_between after.number upto.number (days_of self.now) }
     {
