@@ -4,8 +4,8 @@ use Rattle.std.proofs.lemmas.Bool.{cond_both, both_ways, and_parts, and_from, lt
 use Rattle.refusals.specs.declared.Refusal.{Refusal}
 use Rattle.refusals.specs.declared.Refusal.TheVariants.{UnknownParticipant, AmountLimits, MoneyShort}
 use Rattle.money.specs.declared.transfers.Payment.{Payment}
-use Rattle.money.specs.Funds.{Funds, Sound, payment, covered, payable, answered, left, known, account, balance, moved}
-use Rattle.money.specs.Laws.{Lawful, Within, answer_to, funds_after}
+use Rattle.money.specs.Funds.{Funds, Sound, payment, covered, payable, answered, left, known, account, balance, moved, answer_to, funds_after}
+use Rattle.money.specs.Laws.{Lawful, Within}
 use Rattle.money.proofs.Shifts.{sum_shifted, shifted_from, shifted_to, shifted_third}
 
 module _ (o : Payment) (f : Funds) where

@@ -1,5 +1,3 @@
-pub mod Payments
-pub mod Loops
 pub mod Shifts
 pub mod Ledgers
 pub mod Lawful

@@ -2,6 +2,7 @@
 use Rattle.std.specs.Prelude.{ℕ, ◌+◌, ◌-◌, ◌<◌, ◌≤◌, Bool, cond, ◌&&◌, List, length, Ok, Err, sum, Result, ◌==◌, nat_le, nat_lt, slice_index, slice_set}
 use Rattle.refusals.specs.declared.Refusal.{Refusal}
 use Rattle.refusals.specs.declared.Refusal.TheVariants.{UnknownParticipant, AmountLimits, MoneyShort}
+use Rattle.money.specs.declared.transfers.Payment.{Payment}
 
 -- the account of each participant, and the balance of each account
 pub record Funds : Type 0 where
@@ -63,3 +64,10 @@ answered (Err e) = Err e
 abbrev pub left : {A : Type 0} → A → Result A Refusal → A
 left a (Ok b) = b
 left a (Err e) = a
+
+-- the answer to a payment, and the funds after it
+abbrev pub answer_to : Funds → Payment → Result Unit Refusal
+answer_to f o = answered (payment f o.payer o.payee o.amount)
+
+abbrev pub funds_after : Funds → Payment → Funds
+funds_after f o = left f (payment f o.payer o.payee o.amount)

@@ -3,14 +3,7 @@ use Rattle.std.specs.Prelude.{◌≡◌, ℕ, ◌+◌, ◌<◌, ◌≤◌, true,
 use Rattle.refusals.specs.declared.Refusal.{Refusal}
 use Rattle.refusals.specs.declared.Refusal.TheVariants.{MoneyShort}
 use Rattle.money.specs.declared.transfers.Payment.{Payment}
-use Rattle.money.specs.Funds.{Funds, payment, payable, answered, left, account, balance}
-
--- the answer to a payment, and the funds after it
-abbrev pub answer_to : Funds → Payment → Result Unit Refusal
-answer_to f o = answered (payment f o.payer o.payee o.amount)
-
-abbrev pub funds_after : Funds → Payment → Funds
-funds_after f o = left f (payment f o.payer o.payee o.amount)
+use Rattle.money.specs.Funds.{Funds, payable, account, balance}
 
 -- a payment within one account: payer and payee have the same
 abbrev pub Within : Payment → Funds → Type 0

@@ -1,6 +1,6 @@
 -- A ledger: one balance for each participant, whose account has the participant's number.
-use Rattle.std.specs.Prelude.{◌≡◌, ℕ, ◌≤◌, List, length, Ok, Err, vec_items, Result}
-use Rattle.std.specs.List.{range_with_len, AllByRecursion}
+use Rattle.std.specs.Prelude.{◌≡◌, ℕ, ◌≤◌, List, All, length, Ok, Err, vec_items, Result}
+use Rattle.std.specs.List.{range_with_len}
 use Rattle.refusals.specs.declared.Refusal.{Refusal}
 use Rattle.refusals.specs.declared.Refusal.TheVariants.{LedgerLimits}
 use Rattle.money.specs.declared.ledger.Ledger.{Ledger}
@@ -16,7 +16,7 @@ ledger_funds l = of_ledger (vec_items l.balances)
 
 -- the balances that may open a ledger: 2 to 32, none above 10^15
 abbrev pub Opens : List ℕ → Type 0
-Opens bs = (2 ≤ length bs) × (length bs ≤ 32) × AllByRecursion (λ b. b ≤ 1000000000000000) bs
+Opens bs = (2 ≤ length bs) × (length bs ≤ 32) × All (λ b. b ≤ 1000000000000000) bs
 
 -- a ledger opens exactly if its balances may open one, and then has just these
 abbrev pub Opened : List ℕ → Result Ledger Refusal → Type 0

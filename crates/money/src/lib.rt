@@ -6,12 +6,18 @@ mod ledger;
 mod transfers;
 
 ghost use Rattle.std.specs.Prelude.{◌≡◌, length};
-ghost use Rattle.money.specs.Funds.{Funds, Sound, payment, answered, left, asked, account, balance};
+ghost use Rattle.money.specs.Funds.{Funds, Sound, answer_to, funds_after, asked, account, balance};
 
 pub use agents::AgentTable;
 pub use ledger::Ledger;
 use refusals::Refusal;
 pub use transfers::{Payment, pay_both, pay_once};
+
+// The fewest participants that a money side has.
+const FEWEST_PARTICIPANTS: usize = 2;
+
+// The most participants that a money side has.
+const MOST_PARTICIPANTS: usize = 32;
 
 // The most that a payment may move.
 pub const MOST_AMOUNT: u64 = 100_000_000_000_000_000;
@@ -36,8 +42,8 @@ pub trait Money {
     fn balance(&self, participant: usize) -> Result<u64, Refusal>
         ensures { result ≡ asked (meaning self.now) participant (balance (meaning self.now) participant) };
 
-    // The payer pays the payee.
-    fn pay(&mut self, payer: usize, payee: usize, amount: u64) -> Result<(), Refusal>
-        ensures answer { result ≡ answered (payment (meaning self.old) payer payee amount) }
-        ensures after { meaning self.new ≡ left (meaning self.old) (payment (meaning self.old) payer payee amount) };
+    // Makes a payment: the payer pays the payee.
+    fn pay(&mut self, order: Payment) -> Result<(), Refusal>
+        ensures answer { result ≡ answer_to (meaning self.old) order }
+        ensures after { meaning self.new ≡ funds_after (meaning self.old) order };
 }

@@ -1,12 +1,13 @@
 // Payments over any money side, by its meaning alone.
 ghost use Rattle.std.specs.Prelude.{◌≡◌};
-ghost use Rattle.money.specs.Laws.{answer_to, funds_after, Lawful, Conserves};
+ghost use Rattle.money.specs.Funds.{answer_to, funds_after};
+ghost use Rattle.money.specs.Laws.{Lawful, Conserves};
 
 use crate::Money;
 use refusals::Refusal;
 
 // What one participant is to pay another.
-#[derive(Clone, Copy)]
+#[derive(Clone, Copy, Debug, PartialEq, Eq)]
 pub struct Payment {
     pub payer: usize,
     pub payee: usize,
@@ -19,7 +20,7 @@ pub fn pay_once<M: Money>(money: &mut M, order: Payment) -> Result<(), Refusal>
     ensures after { M.Money.meaning money.new ≡ funds_after (M.Money.meaning money.old) order }
     ensures lawful { Lawful order (M.Money.meaning money.old) (M.Money.meaning money.new) result }
 {
-    money.pay(order.payer, order.payee, order.amount)
+    money.pay(order)
 }
 
 // Makes two payments, the second whatever became of the first.

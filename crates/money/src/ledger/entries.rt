@@ -1,10 +1,10 @@
-ghost use Rattle.std.specs.Prelude.{◌≡◌, ℕ, ◌<◌, ◌≤◌, vec_len, ◌==◌, ◌≢◌, nat_le, slice_index};
-ghost use Rattle.money.specs.Funds.{payable, shifted};
+ghost use Rattle.std.specs.Prelude.{◌≡◌, ℕ, ◌<◌, ◌≤◌, vec_len, ◌≢◌, slice_index};
+ghost use Rattle.money.specs.Funds.{payable, shifted, asked};
 ghost use Rattle.money.specs.Ledger.{ledger_funds, Opened};
 ghost use Rattle.money.specs.Soundness.{ledger_sound};
 
 use super::Ledger;
-use crate::{MOST_AMOUNT, MOST_AT_FIRST, Money};
+use crate::{FEWEST_PARTICIPANTS, MOST_AMOUNT, MOST_AT_FIRST, MOST_PARTICIPANTS, Money, Payment};
 use refusals::Refusal;
 
 impl Ledger {
@@ -12,64 +12,19 @@ impl Ledger {
     pub fn new(balances: Vec<u64>) -> Result<Ledger, Refusal>
         ensures { Opened balances.items result }
     {
-        let n = balances.len();
-        if n < 2 || n > 32 {
+        if !(FEWEST_PARTICIPANTS..=MOST_PARTICIPANTS).contains(&balances.len())
+            || balances.iter().any(|balance| *balance > MOST_AT_FIRST)
+        {
             return Err(Refusal::LedgerLimits);
-        }
-        for balance in balances.as_slice() {
-            if *balance > MOST_AT_FIRST {
-                return Err(Refusal::LedgerLimits);
-            }
         }
         Ok(Ledger { balances })
     }
 
-    // Moves an amount that the payer's balance covers to another account.
-    fn shift(&mut self, payer: usize, payee: usize, amount: u64)
-        requires apart { payer ≢ payee }
-        requires payer { payer < vec_len self.old.balances }
-        requires payee { payee < vec_len self.old.balances }
-        requires covered { amount ≤ slice_index self.old.balances.items payer }
-        ensures { self.new.balances.items ≡ shifted self.old.balances.items payer payee amount }
+    // The participant of a number, if there is one.
+    #[tactic(auto, using(crate::proofs::Ledgers::by_balances))]
+    fn known(&self, participant: usize) -> Result<usize, Refusal>
+        ensures { result ≡ asked (ledger_funds self.now) participant participant }
     {
-        let from = self.balances[payer];
-        let to = self.balances[payee];
-        self.balances[payer] = from - amount;
-        self.balances[payee] = to + amount;
-    }
-}
-
-// Whether an amount may be paid at all.
-fn payable(amount: u64) -> bool
-    ensures { result ≡ payable amount }
-{
-    1 <= amount && amount <= MOST_AMOUNT
-}
-
-// Whether two participants have one account: only if they are one.
-fn same_account(payer: usize, payee: usize) -> bool
-    ensures { result ≡ (payer == payee) }
-{
-    payer == payee
-}
-
-// Whether a balance covers an amount.
-fn covers(balance: u64, amount: u64) -> bool
-    ensures { result ≡ nat_le amount balance }
-{
-    amount <= balance
-}
-
-impl Money for Ledger {
-    ghost meaning = { ledger_funds };
-
-    ghost sound = { ledger_sound };
-
-    fn participants(&self) -> usize {
-        self.balances.len()
-    }
-
-    fn account(&self, participant: usize) -> Result<usize, Refusal> {
         if participant < self.balances.len() {
             Ok(participant)
         } else {
@@ -77,29 +32,60 @@ impl Money for Ledger {
         }
     }
 
-    fn balance(&self, participant: usize) -> Result<u64, Refusal> {
-        if participant < self.balances.len() {
-            Ok(self.balances[participant])
-        } else {
-            Err(Refusal::UnknownParticipant)
-        }
+    // Moves an amount that the payer's balance covers to another account.
+    fn shift(&mut self, order: Payment)
+        requires apart { order.payer ≢ order.payee }
+        requires payer { order.payer < vec_len self.old.balances }
+        requires payee { order.payee < vec_len self.old.balances }
+        requires covered { order.amount ≤ slice_index self.old.balances.items order.payer }
+        ensures { self.new.balances.items ≡ shifted self.old.balances.items order.payer order.payee order.amount }
+    {
+        self.balances[order.payer] -= order.amount;
+        self.balances[order.payee] += order.amount;
+    }
+}
+
+// Whether an amount may be paid at all.
+fn payable(amount: u64) -> bool
+    ensures { result ≡ payable amount }
+{
+    (1..=MOST_AMOUNT).contains(&amount)
+}
+
+impl Money for Ledger {
+    ghost meaning = { ledger_funds };
+
+    ghost sound = { ledger_sound };
+
+    #[tactic(auto, using(crate::proofs::Ledgers::by_balances))]
+    fn participants(&self) -> usize {
+        self.balances.len()
     }
 
-    fn pay(&mut self, payer: usize, payee: usize, amount: u64) -> Result<(), Refusal> {
-        let n = self.balances.len();
-        if payer >= n || payee >= n {
-            return Err(Refusal::UnknownParticipant);
-        }
-        if !payable(amount) {
+    #[tactic(auto, using(crate::proofs::Ledgers::by_balances))]
+    fn account(&self, participant: usize) -> Result<usize, Refusal> {
+        self.known(participant)
+    }
+
+    #[tactic(auto, using(crate::proofs::Ledgers::by_balances))]
+    fn balance(&self, participant: usize) -> Result<u64, Refusal> {
+        Ok(self.balances[self.known(participant)?])
+    }
+
+    #[tactic(auto, using(crate::proofs::Ledgers::by_balances))]
+    fn pay(&mut self, order: Payment) -> Result<(), Refusal> {
+        let payer = self.known(order.payer)?;
+        let payee = self.known(order.payee)?;
+        if !payable(order.amount) {
             return Err(Refusal::AmountLimits);
         }
-        if same_account(payer, payee) {
+        if payer == payee {
             return Ok(());
         }
-        if !covers(self.balances[payer], amount) {
+        if self.balances[payer] < order.amount {
             return Err(Refusal::MoneyShort);
         }
-        self.shift(payer, payee, amount);
+        self.shift(order);
         Ok(())
     }
 }

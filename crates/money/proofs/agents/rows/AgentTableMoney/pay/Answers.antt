@@ -1,37 +1,30 @@
-use Rattle.std.proofs.Common.{get_or, vec_items}
-use Rattle.std.proofs.lemmas.Result.{err_from_is_err_and}
-use Rattle.money.specs.Agents.{agent}
-use Rattle.money.specs.Funds.{payment}
-use Rattle.money.proofs.Tables.{of_rows, table_answer, table_after, nobody_pays, nobody_paid, refused_stays}
+use Rattle.std.proofs.Common.{vec_items, sym, ap, subst, ◌<◌, length, All, ◌∙◌}
+use Rattle.money.specs.Agents.{of_agents}
+use Rattle.money.specs.Funds.{answer_to, funds_after}
+use Rattle.money.proofs.Tables.{agents_asked, table_answer, table_after, named_after}
 use Rattle.money.proofs.agents.rows.AgentTableMoney.pay.Goals as goal
 
-pub returns-in_err-from : goal.returns-in_err-from
-returns-in_err-from g c =
+pub invariant_of-self : goal.invariant_of-self
+invariant_of-self g c =
     let t = c.args.self.now in
-    let m = g.M.Money.meaning t.below in
-    let rows = vec_items t.agents.rows in
-    let r = c.from_residual.result in
-    let p = err_from_is_err_and r c.from_residual.ensures.1 in
-    let a = nobody_pays (of_rows m rows) c.args.payer c.args.payee c.args.amount (agent m (get_or rows c.args.payer 0)) r p.0 c.in_err-from.field-0.0 p.1 p.2 c.in_err-from.ensures in
-    record { answer = a; after = refused_stays (of_rows m rows) (payment (of_rows m rows) c.args.payer c.args.payee c.args.amount) r p.0 p.1 a }
+    let f = g.M.Money.meaning t.below in
+    let rows = vec_items t.rows in
+    record { some = t.some; few = t.few; named = subst (λ h. All (λ row. row < length h.accounts) rows) (sym c.pay.ensures.after) (named_after f rows _ (g.M.Money.sound t.below) t.named) }
 
-pub returns-in_err-to : goal.returns-in_err-to
-returns-in_err-to g c =
+pub returns-clause-answer : goal.returns-clause-answer
+returns-clause-answer g c =
     let t = c.args.self.now in
-    let m = g.M.Money.meaning t.below in
-    let rows = vec_items t.agents.rows in
-    let r = c.from_residual-in_err-to.result in
-    let p = err_from_is_err_and r c.from_residual-in_err-to.ensures.1 in
-    let a = nobody_paid (of_rows m rows) c.args.payer c.args.payee c.args.amount (agent m (get_or rows c.args.payee 0)) r p.0 c.in_err-to.field-0.0 p.1 p.2 c.in_err-to.ensures in
-    record { answer = a; after = refused_stays (of_rows m rows) (payment (of_rows m rows) c.args.payer c.args.payee c.args.amount) r p.0 p.1 a }
+    let f = g.M.Money.meaning t.below in
+    let rows = vec_items t.rows in
+    let o = c.args.order in
+    let a = agents_asked f rows o c.in_ok-payer.payer c.in_ok-payee.payee c.in_ok-payer.ensures c.in_ok-payee.ensures in
+    c.pay.ensures.answer ∙ ap (answer_to f) a.2 ∙ sym (table_answer f rows t.named o a.0 a.1)
 
-pub returns : goal.returns
-returns g c =
+pub returns-clause-after : goal.returns-clause-after
+returns-clause-after g c =
     let t = c.args.self.now in
-    let m = g.M.Money.meaning t.below in
-    let rows = vec_items t.agents.rows in
-    let s = g.M.Money.sound t.below in
-    record {
-      answer = table_answer m rows c.args.payer c.args.payee c.in_ok-from.from c.in_ok-to.to c.args.amount s c.in_ok-from.ensures c.in_ok-to.ensures c.pay.result c.pay.ensures.answer;
-      after = table_after m rows c.args.payer c.args.payee c.in_ok-from.from c.in_ok-to.to c.args.amount s c.in_ok-from.ensures c.in_ok-to.ensures (g.M.Money.meaning c.pay.new.self) c.pay.ensures.after;
-    }
+    let f = g.M.Money.meaning t.below in
+    let rows = vec_items t.rows in
+    let o = c.args.order in
+    let a = agents_asked f rows o c.in_ok-payer.payer c.in_ok-payee.payee c.in_ok-payer.ensures c.in_ok-payee.ensures in
+    ap (λ k. of_agents k rows) (c.pay.ensures.after ∙ ap (funds_after f) a.2) ∙ sym (table_after f rows t.named o a.0 a.1 (g.M.Money.sound t.below))
