@@ -6,7 +6,7 @@ ghost use Rattle.payments.specs.Sums.{whole};
 
 use money::{AgentTable, Ledger, MOST_AMOUNT, MOST_AT_FIRST, Money, Payment, pay_both, pay_once};
 use refusals::Refusal;
-use std::io;
+use std::{fmt, io};
 
 // What is asked, in one line.
 fn order(payer: usize, payee: usize, amount: u64) -> Payment
@@ -19,17 +19,30 @@ fn order(payer: usize, payee: usize, amount: u64) -> Payment
     }
 }
 
-fn show_answer(rt: &HostRuntime, order: Payment, answer: Result<(), Refusal>) -> io::Result<()> {
-    let payer = order.payer;
-    let payee = order.payee;
-    let amount = order.amount;
-    match answer {
-        Ok(()) => println!(rt; "{payer} pays {payee} {amount}: accepted"),
-        Err(refusal) => {
-            let number = refusal.number();
-            println!(rt; "{payer} pays {payee} {amount}: refused {number}")
-        }
+// What was asked, and how it ended.
+fn show<A: fmt::Display + Drop>(
+    rt: &HostRuntime,
+    asked: A,
+    ending: Result<&str, Refusal>,
+) -> io::Result<()> {
+    match ending {
+        Ok(done) => println!(rt; "{asked}: {done}"),
+        Err(refusal) => println!(rt; "{asked}: refused {refusal}"),
     }
+}
+
+// How a payment ended.
+fn show_answer(rt: &HostRuntime, order: Payment, answer: Result<(), Refusal>) -> io::Result<()> {
+    let Payment {
+        payer,
+        payee,
+        amount,
+    } = order;
+    show(
+        rt,
+        format_args!("{payer} pays {payee} {amount}"),
+        answer.map(|()| "accepted"),
+    )
 }
 
 // A participant's account and balance, or why there are none.
@@ -38,10 +51,9 @@ fn show_participant<M: Money>(rt: &HostRuntime, money: &M, participant: usize) -
         (Ok(account), Ok(balance)) => println!(rt;
             "{participant} has {balance} on account {account}"
         ),
-        (Err(refusal), _) | (_, Err(refusal)) => {
-            let number = refusal.number();
-            println!(rt; "{participant} has no account: refused {number}")
-        }
+        (Err(refusal), _) | (_, Err(refusal)) => println!(rt;
+            "{participant} has no account: refused {refusal}"
+        ),
     }
 }
 
@@ -79,11 +91,7 @@ fn through_agents<M: Money>(
             let shown = make_all(rt, &mut table, orders);
             (table.into_below(), shown)
         }
-        Err((refusal, below)) => {
-            let number = refusal.number();
-            let shown = println!(rt; "no table: refused {number}");
-            (below, shown)
-        }
+        Err((refusal, below)) => (below, println!(rt; "no table: refused {refusal}")),
     }
 }
 
@@ -102,23 +110,18 @@ fn through_both<M: Money>(
             let (table, shown) = through_agents(rt, table, upper, orders);
             (table.into_below(), shown)
         }
-        Err((refusal, below)) => {
-            let number = refusal.number();
-            let shown = println!(rt; "no table: refused {number}");
-            (below, shown)
-        }
+        Err((refusal, below)) => (below, println!(rt; "no table: refused {refusal}")),
     }
 }
 
 // Whether a ledger opens with so many accounts that hold this each.
 fn show_ledger(rt: &HostRuntime, accounts: usize, each: u64) -> io::Result<()> {
-    match Ledger::new(vec![in rt.alloc(); each; accounts]?) {
-        Ok(_) => println!(rt; "{accounts} accounts with {each}: a ledger"),
-        Err(refusal) => {
-            let number = refusal.number();
-            println!(rt; "{accounts} accounts with {each}: refused {number}")
-        }
-    }
+    let opened = Ledger::new(vec![in rt.alloc(); each; accounts]?);
+    show(
+        rt,
+        format_args!("{accounts} accounts with {each}"),
+        opened.map(|_| "a ledger"),
+    )
 }
 
 // Whether a table of so many rows that name this agent stands on a ledger of two accounts.
@@ -127,16 +130,14 @@ fn show_table(rt: &HostRuntime, rows: usize, agent: usize) -> io::Result<()> {
     let Ok(ledger) = Ledger::new(vec![in rt.alloc(); 0; 2]?) else {
         return println!(rt; "no ledger");
     };
-    match AgentTable::new(ledger, names) {
+    let stood = match AgentTable::new(ledger, names) {
         Ok(table) => {
             let _ledger = table.into_below();
-            println!(rt; "{rows} rows that name {agent}: a table")
+            Ok("a table")
         }
-        Err((refusal, _ledger)) => {
-            let number = refusal.number();
-            println!(rt; "{rows} rows that name {agent}: refused {number}")
-        }
-    }
+        Err((refusal, _ledger)) => Err(refusal),
+    };
+    show(rt, format_args!("{rows} rows that name {agent}"), stood)
 }
 
 // On both sides of each limit.
@@ -162,20 +163,12 @@ fn main(rt: HostRuntime) -> io::Result<()> {
         return println!(rt; "no ledger");
     };
     make_all(&rt, &mut ledger, &on_ledger())?;
-    let (ledger, shown) = through_agents(
-        &rt,
-        ledger,
-        vec![in rt.alloc(); 1, 2, 1, 3, 0]?,
-        &on_table(),
-    );
+    let rows = vec![in rt.alloc(); 1, 2, 1, 3, 0]?;
+    let (ledger, shown) = through_agents(&rt, ledger, rows, &on_table());
     shown?;
-    let (mut ledger, shown) = through_both(
-        &rt,
-        ledger,
-        vec![in rt.alloc(); 1, 2, 1, 3, 0]?,
-        vec![in rt.alloc(); 4, 3, 0, 2]?,
-        &on_both(),
-    );
+    let lower = vec![in rt.alloc(); 1, 2, 1, 3, 0]?;
+    let upper = vec![in rt.alloc(); 4, 3, 0, 2]?;
+    let (mut ledger, shown) = through_both(&rt, ledger, lower, upper, &on_both());
     shown?;
     show_pair(&rt, &mut ledger)
 }
