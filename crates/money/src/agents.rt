@@ -1,4 +1,4 @@
-ghost use Rattle.std.specs.Prelude.{ℕ, ◌≤◌, ◌<◌, All, length, vec_len};
+ghost use Rattle.std.specs.Prelude.{◌≤◌, ◌<◌, All, length, vec_len};
 
 use crate::Money;
 

@@ -29,7 +29,8 @@ pub fn pay_both<M: Money>(
     first: Payment,
     second: Payment,
 ) -> (Result<(), Refusal>, Result<(), Refusal>)
-    ensures answer { result ≡ (answer_to (M.Money.meaning money.old) first, answer_to (funds_after (M.Money.meaning money.old) first) second) }
+    ensures answer { let before = M.Money.meaning money.old in
+        result ≡ (answer_to before first, answer_to (funds_after before first) second) }
     ensures after { M.Money.meaning money.new ≡ funds_after (funds_after (M.Money.meaning money.old) first) second }
     ensures lawful { Conserves (M.Money.meaning money.old) (M.Money.meaning money.new) }
 {

@@ -95,7 +95,7 @@ fn through_agents<M: Money>(
     }
 }
 
-// The same through a table on a table.
+// The same through a table on a table. What to do on a table cannot be a closure: no bound may name AgentTable yet.
 fn through_both<M: Money>(
     rt: &HostRuntime,
     below: M,

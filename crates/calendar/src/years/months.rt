@@ -1,7 +1,7 @@
 // Single months, and lists of months.
-ghost use Rattle.std.specs.Prelude.{◌≡◌, ◌+◌, ◌-◌, ◌%◌, ◌^◌, ◌<◌, ◌≤◌, true, length, count_ones, nat_lt};
+ghost use Rattle.std.specs.Prelude.{◌≡◌, ◌-◌, ◌%◌, ◌^◌, ◌<◌, ◌≤◌, true, count_ones, nat_lt};
 ghost use Rattle.calendar.specs.Days.{first_from, count_upto};
-ghost use Rattle.calendar.specs.Masks.{number_of, length_of, is_set, days_from, business_days, within_months, some_set, fits};
+ghost use Rattle.calendar.specs.Masks.{number_of, length_of, is_set, days_from, business_days, within_months, some_set};
 
 use super::MonthMasks;
 use crate::month_length;

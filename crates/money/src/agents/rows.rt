@@ -1,5 +1,5 @@
-ghost use Rattle.std.specs.Prelude.{◌≡◌, length, slice_index};
-ghost use Rattle.money.specs.Funds.{Funds, Sound, asked};
+ghost use Rattle.std.specs.Prelude.{◌≡◌, slice_index};
+ghost use Rattle.money.specs.Funds.{asked};
 ghost use Rattle.money.specs.Agents.{table_funds, Tabled};
 ghost use Rattle.money.specs.Soundness.{table_sound};
 
@@ -31,7 +31,8 @@ impl<M: Money> AgentTable<M> {
 
     // The agent of a participant, if there is such a participant.
     fn agent(&self, participant: usize) -> Result<usize, Refusal>
-        ensures { result ≡ asked (table_funds M.Money self.now) participant (slice_index self.now.rows.items participant) }
+        ensures { let table = self.now in
+            result ≡ asked (table_funds M.Money table) participant (slice_index table.rows.items participant) }
     {
         self.rows
             .get(participant)

@@ -1,4 +1,4 @@
-ghost use Rattle.std.specs.Prelude.{◌≡◌, ℕ, ◌<◌, ◌≤◌, vec_len, ◌≢◌, slice_index};
+ghost use Rattle.std.specs.Prelude.{◌≡◌, ◌<◌, ◌≤◌, vec_len, ◌≢◌, slice_index};
 ghost use Rattle.money.specs.Funds.{payable, shifted, asked};
 ghost use Rattle.money.specs.Ledger.{ledger_funds, Opened};
 ghost use Rattle.money.specs.Soundness.{ledger_sound};
