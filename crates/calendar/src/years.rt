@@ -10,7 +10,8 @@ struct MonthMasks {
     ghost few: { vec_len masks ≤ 240 },
 }
 
-// The business days of some years, whose months set no bit past their ends.
+// The business days of some years, whose months set no bit past their ends. It has no model: that its business days
+// rise follows from its fields, and a model would hide that from those who ask for them.
 #[derive(Drop)]
 pub struct Calendar {
     months: MonthMasks,

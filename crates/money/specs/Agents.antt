@@ -17,7 +17,7 @@ Stands f rows = (2 ≤ length rows) × (length rows ≤ 32) × All (λ row. row 
 module _ {M : Type 0} (money : Ghosts M) where
   -- what a table means: all its rows name participants below
   abbrev pub table_funds : AgentTable M money → Funds
-  table_funds t = of_agents (money.meaning t.below) (vec_items t.rows)
+  table_funds t = of_agents (money.meaning t.below) (vec_items t.agents.rows)
 
   -- a table stands exactly if its rows may, and then its agents are just these; else the money side comes back
   abbrev pub Tabled : M → List ℕ → Result (AgentTable M money) (Refusal × M) → Type 0

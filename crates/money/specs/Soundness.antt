@@ -34,11 +34,11 @@ module _ {M : Type 0} (money : Ghosts M) (sound : (m : M) → Sound (money.meani
   table_sound t =
       let f = money.meaning t.below in
       let s = sound t.below in
-      let rows = vec_items t.rows in
+      let rows = vec_items t.agents.rows in
       let n = agents_length f rows in
       record {
-        some = omega (arith, t.rows.ok.0, t.some);
-        few = omega (arith, t.rows.ok.0, t.few);
+        some = omega (arith, t.agents.rows.ok.0, t.agents.some);
+        few = omega (arith, t.agents.rows.ok.0, t.agents.few);
         within = λ p h.
             let e = agents_account f rows p (omega arith) in
             omega (arith, s.within (slice_index rows p) (t.named p 0 (omega arith)));

@@ -1,15 +1,20 @@
-ghost use Rattle.std.specs.Prelude.{◌≤◌, ◌<◌, All, length, vec_len};
+ghost use Rattle.std.specs.Prelude.{ℕ, ◌≤◌, ◌<◌, All, length, vec_len};
 
 use crate::Money;
 
-// Participants who pay and are paid through agents, the participants of the money side below: for each participant the
-// number of its agent.
-pub struct AgentTable<M: Money> {
-    below: M,
+// For each participant the number of its agent.
+#[derive(Drop)]
+pub struct Agents {
     rows: Vec<usize>,
     ghost some: { 2 ≤ vec_len rows },
     ghost few: { vec_len rows ≤ 32 },
-    ghost named: { All (λ row. row < length (M.meaning below).accounts) rows.items },
+}
+
+// Participants who pay and are paid through agents, the participants of the money side below.
+pub struct AgentTable<M: Money> {
+    below: M,
+    agents: Agents,
+    ghost named: { All (λ row. row < length (M.meaning below).accounts) agents.rows.items },
 }
 
 pub mod rows;

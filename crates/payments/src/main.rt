@@ -127,9 +127,7 @@ fn show_ledger(rt: &HostRuntime, accounts: usize, each: u64) -> io::Result<()> {
 // Whether a table of so many rows that name this agent stands on a ledger of two accounts.
 fn show_table(rt: &HostRuntime, rows: usize, agent: usize) -> io::Result<()> {
     let names = vec![in rt.alloc(); agent; rows]?;
-    let Ok(ledger) = Ledger::new(vec![in rt.alloc(); 0; 2]?) else {
-        return println!(rt; "no ledger");
-    };
+    let ledger = Ledger::new(vec![in rt.alloc(); 0; 2]?).unwrap();
     let stood = match AgentTable::new(ledger, names) {
         Ok(table) => {
             let _ledger = table.into_below();
@@ -159,9 +157,7 @@ fn show_limits(rt: &HostRuntime) -> io::Result<()> {
 
 fn main(rt: HostRuntime) -> io::Result<()> {
     show_limits(&rt)?;
-    let Ok(mut ledger) = Ledger::new(vec![in rt.alloc(); 1000, 500, 0, 250]?) else {
-        return println!(rt; "no ledger");
-    };
+    let mut ledger = Ledger::new(vec![in rt.alloc(); 1000, 500, 0, 250]?).unwrap();
     make_all(&rt, &mut ledger, &on_ledger())?;
     let rows = vec![in rt.alloc(); 1, 2, 1, 3, 0]?;
     let (ledger, shown) = through_agents(&rt, ledger, rows, &on_table());

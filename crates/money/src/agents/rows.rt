@@ -3,12 +3,13 @@ ghost use Rattle.money.specs.Funds.{asked};
 ghost use Rattle.money.specs.Agents.{table_funds, Tabled};
 ghost use Rattle.money.specs.Soundness.{table_sound};
 
-use super::AgentTable;
+use super::{AgentTable, Agents};
 use crate::{FEWEST_PARTICIPANTS, MOST_PARTICIPANTS, Money, Payment};
 use refusals::Refusal;
 
 impl<M: Money> AgentTable<M> {
-    // A table of 2 to 32 rows that all name participants below; else the money side comes back.
+    // A table of 2 to 32 rows that all name participants below; else the money side comes back. The error is a pair, as
+    // who gets it takes the two apart at once.
     pub fn new(below: M, rows: Vec<usize>) -> Result<AgentTable<M>, (Refusal, M)>
         ensures { Tabled M.Money below rows.items result }
     {
@@ -18,23 +19,28 @@ impl<M: Money> AgentTable<M> {
         {
             return Err((Refusal::AgentTableLimits, below));
         }
-        Ok(AgentTable { below, rows })
+        let agents = Agents { rows };
+        Ok(AgentTable { below, agents })
     }
 
     // Ends the table, and gives the money side below back.
     pub fn into_below(self) -> M
         ensures { result ≡ self.below }
     {
-        let AgentTable { below, rows: _rows } = self;
+        let AgentTable {
+            below,
+            agents: _agents,
+        } = self;
         below
     }
 
     // The agent of a participant, if there is such a participant.
     fn agent(&self, participant: usize) -> Result<usize, Refusal>
         ensures { let table = self.now in
-            result ≡ asked (table_funds M.Money table) participant (slice_index table.rows.items participant) }
+            result ≡ asked (table_funds M.Money table) participant (slice_index table.agents.rows.items participant) }
     {
-        self.rows
+        self.agents
+            .rows
             .get(participant)
             .copied()
             .ok_or(Refusal::UnknownParticipant)
@@ -47,7 +53,7 @@ impl<M: Money> Money for AgentTable<M> {
     ghost sound = { table_sound M.Money M.Money.sound };
 
     fn participants(&self) -> usize {
-        self.rows.len()
+        self.agents.rows.len()
     }
 
     #[tactic(auto, using(crate::proofs::Tables::by_rows))]
