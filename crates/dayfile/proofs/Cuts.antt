@@ -1,12 +1,13 @@
 -- Where bytes are cut into parts.
-use Rattle.std.proofs.Common.{◌≡◌, ℕ, suc, ◌+◌, ◌-◌, ◌<◌, ◌≤◌, Bool, true, false, cond, eqb, List, [], ◌∷◌, length, get_or, take, drop, sym, refl, ap, ◌∙◌, arith}
-use Rattle.std.proofs.lemmas.List.{drop-drop, drop_more, drop_all, length-drop, take_all}
-use Rattle.std.proofs.lemmas.Bool.{ne_eqb, eq-eqb}
-use Rattle.dayfile.specs.Text.{prepend, parts, lines, fields, before, SameLines}
-
--- the bytes before the first mark, from a place on
-abbrev pub upto : ℕ → ℕ → List ℕ → ℕ
-upto mark from bs = from + length (before mark (drop from bs))
+use Rattle.std.proofs.Common.{◌≡◌, ℕ, suc, ◌+◌, ◌<◌, ◌≤◌, Bool, true, false, cond, not, eqb, ltb, List, [], ◌∷◌, length, Some, None, Option, unwrap_or, take, drop, sym, refl, ap, ◌∙◌, subst, ⊎_elim, arith}
+use Rattle.std.proofs.str.Laws.{order}
+use Rattle.std.specs.Borrow.{Bor}
+use Rattle.std.specs.List.{position, position_or_len, PartBy}
+use Rattle.std.proofs.lemmas.List.{drop_all, take_all, take_rest}
+use Rattle.std.proofs.lemmas.List.Recursion.{is_position_or_len}
+use Rattle.std.proofs.lemmas.List.Sums.{prefix_len-le-length}
+use Rattle.std.proofs.lemmas.Bool.{cond_both, ltb-false, ne_eqb}
+use Rattle.dayfile.specs.Text.{prepend, parts, parts_left, lines, fields, before, SameLines}
 
 module _ (mark : ℕ) where
   -- what is before the first mark stands in front
@@ -38,55 +39,64 @@ module _ (mark : ℕ) where
       go true more h = absurd (omega arith)
       go false more h = ap (prepend b) (more (omega arith))
 
-  -- the end of a part, one byte on
-  pub upto_more : (bs : List ℕ) (end : ℕ) → end < length bs → (get_or bs end 0 ≡ mark → ⊥) → upto mark (end + 1) bs ≡ upto mark end bs
-  upto_more bs end h ne =
-      let e : length (before mark (drop end bs)) ≡ suc (length (before mark (drop (end + 1) bs))) = ap (λ l. length (before mark l)) (drop_more bs end 0 h) ∙ ap (λ t. length (cond t [] (get_or bs end 0 ∷ before mark (drop (end + 1) bs)))) (ne_eqb (get_or bs end 0) mark ne) in
-      omega (arith, e)
+  -- the bytes before the first mark, by the place of the mark
+  before_length : (bs : List ℕ) → length (before mark bs) ≡ position_or_len (λ b. eqb b mark) bs
+  before_length = is_position_or_len (λ bs. length (before mark bs)) (λ b. eqb b mark) refl (λ b bs. elim (eqb b mark) as (λ t. length (cond t [] (b ∷ before mark bs)) ≡ cond t 0 (1 + length (before mark bs))) [ true ↦ refl | false ↦ omega arith ])
 
-  pub upto_mark : (bs : List ℕ) (end : ℕ) → end < length bs → get_or bs end 0 ≡ mark → upto mark end bs ≡ end
-  upto_mark bs end h eq =
-      let e : length (before mark (drop end bs)) ≡ 0 = ap (λ l. length (before mark l)) (drop_more bs end 0 h) ∙ ap (λ t. length (cond t [] (get_or bs end 0 ∷ before mark (drop (end + 1) bs)))) (eq-eqb (get_or bs end 0) mark eq) in
-      omega (arith, e)
+  pub before_place : (bs : List ℕ) → unwrap_or (position (λ b. eqb b mark) bs) (length bs) ≡ length (before mark bs)
+  before_place bs =
+      let n = position_or_len (λ b. eqb b mark) bs in
+      let h : n ≤ length bs = prefix_len-le-length (λ b. not (eqb b mark)) bs in
+      cond_both (ltb n (length bs)) (Some n) None (λ o. unwrap_or o (length bs) ≡ n) (λ _. refl) (λ e. omega (arith, ltb-false n (length bs) e)) ∙ sym (before_length bs)
 
-  pub upto_all : (bs : List ℕ) (end : ℕ) → length bs ≤ end → upto mark end bs ≡ end
-  upto_all bs end h =
-      let e : length (before mark (drop end bs)) ≡ 0 = ap (λ l. length (before mark l)) (drop_all end bs h) in
-      omega (arith, e)
+  -- the first part of some bytes that end with a mark, and the parts behind it
+  cut_mark : (none : List (List ℕ)) (bs : List ℕ) → length (before mark bs) < length bs
+      → parts mark none bs ≡ take (length (before mark bs)) bs ∷ parts mark none (drop (length (before mark bs) + 1) bs)
+  cut_mark none bs h =
+      let n = length (before mark bs) in
+      let e : suc n ≡ n + 1 = omega arith in
+      parts_cut none bs h ∙ ap (λ p. p ∷ parts mark none (drop (suc n) bs)) (sym (take_before bs)) ∙ ap (λ k. take n bs ∷ parts mark none (drop k bs)) e
 
-  module _ (none : List (List ℕ)) (bs : List ℕ) (from end : ℕ) (at : end ≡ upto mark from bs) where
-    size : end - from ≡ length (before mark (drop from bs))
-    size = omega arith
+  -- the only part of some bytes without a mark
+  cut_last : (none : List (List ℕ)) → ((b : ℕ) → prepend b none ≡ (b ∷ []) ∷ []) → (bs : List ℕ) → 0 < length bs
+      → length bs ≤ length (before mark bs) → parts mark none bs ≡ take (length (before mark bs)) bs ∷ []
+  cut_last none alone [] h l = absurd (omega arith)
+  cut_last none alone (b ∷ bs) h l = parts_last none alone b bs l ∙ ap (λ p. p ∷ []) (sym (take_all (length (before mark (b ∷ bs))) (b ∷ bs) l))
 
-    part : take (end - from) (drop from bs) ≡ before mark (drop from bs)
-    part = ap (λ n. take n (drop from bs)) size ∙ take_before (drop from bs)
+-- the first line of some bytes, and the lines behind it
+pub lines_cut : (bs : List ℕ) → 0 < length bs → lines bs ≡ take (length (before 10 bs)) bs ∷ lines (drop (length (before 10 bs) + 1) bs)
+lines_cut bs h =
+    let n = length (before 10 bs) in
+    ⊎_elim
+    (λ l. cut_mark 10 [] bs l)
+    (λ l. cut_last 10 [] (λ b. refl) bs h l ∙ ap (λ r. take n bs ∷ lines r) (sym (drop_all (n + 1) bs (omega arith))))
+    (order n (length bs))
 
-    -- the part from a place on that ends with a mark
-    pub cut_mark : end < length bs → parts mark none (drop from bs) ≡ take (end - from) (drop from bs) ∷ parts mark none (drop (end + 1) bs)
-    cut_mark h =
-        let n = length (before mark (drop from bs)) in
-        let e : from + suc n ≡ end + 1 = omega arith in
-        parts_cut none (drop from bs) (simp length-drop (omega arith))
-        ∙ ap (λ p. p ∷ parts mark none (drop (suc n) (drop from bs))) (sym part)
-        ∙ ap (λ l. take (end - from) (drop from bs) ∷ parts mark none l) (drop-drop (suc n) from bs ∙ ap (λ k. drop k bs) e)
+-- the first field of some bytes, and the fields behind it, if any are
+first_cut : (bs : List ℕ) (behind : Option (Bor (List ℕ))) → PartBy (λ x. x.now) bs (length (before 44 bs) + 1) (length bs) behind
+    → fields bs ≡ take (length (before 44 bs)) bs ∷ parts_left behind
+first_cut [] None p = refl
+first_cut (b ∷ bs) None p = cut_last 44 ([] ∷ []) (λ b. refl) (b ∷ bs) (omega arith) (⊎_elim (λ l. omega (arith, l)) (λ l. absurd (omega (arith, l))) p.0)
+first_cut bs (Some x) p =
+    let n = length (before 44 bs) in
+    cut_mark 44 ([] ∷ []) bs (omega (arith, p.0.0)) ∙ ap (λ l. take n bs ∷ fields l) (sym (p.0.2 ∙ take_rest bs (n + 1)))
 
-    -- the part from a place on that ends with the bytes
-    pub cut_last : ((b : ℕ) → prepend b none ≡ (b ∷ []) ∷ []) → from < length bs → length bs ≤ end → parts mark none (drop from bs) ≡ take (end - from) (drop from bs) ∷ []
-    cut_last alone l h = go (drop from bs) (simp length-drop (omega arith)) (simp length-drop (omega (arith, size))) ∙ ap (λ p. p ∷ []) (sym (take_all (end - from) (drop from bs) (simp length-drop (omega arith))))
-      where
-        go : (ds : List ℕ) → 0 < length ds → length ds ≤ length (before mark ds) → parts mark none ds ≡ ds ∷ []
-        go [] a b = absurd (omega arith)
-        go (d ∷ ds) a b = parts_last none alone d ds b
+pub fields_cut : (bs : List ℕ) (end : ℕ) (behind : Option (Bor (List ℕ))) → end ≡ length (before 44 bs)
+    → PartBy (λ x. x.now) bs (end + 1) (length bs) behind → fields bs ≡ take end bs ∷ parts_left behind
+fields_cut bs end behind e p =
+    subst (λ n. fields bs ≡ take n bs ∷ parts_left behind) (sym e) (first_cut bs behind (subst (λ n. PartBy (λ x. x.now) bs (n + 1) (length bs) behind) e p))
+
+-- some bytes have at most one field more than bytes
+prepend_length : (b : ℕ) (ps : List (List ℕ)) → length (prepend b ps) ≤ length ps + 1
+prepend_length b [] = omega arith
+prepend_length b (p ∷ ps) = omega arith
+
+pub fields_few : (bs : List ℕ) → length (fields bs) ≤ length bs + 1
+fields_few [] = omega arith
+fields_few (b ∷ bs) =
+    cond_both (eqb b 44) ([] ∷ fields bs) (prepend b (fields bs)) (λ ps. length ps ≤ length (b ∷ bs) + 1) (λ _. omega (arith, fields_few bs)) (λ _. omega (arith, fields_few bs, prepend_length b (fields bs)))
 
 -- byte 10 behind a last byte that is not 10 ends the same line
 pub same_lines : SameLines
 same_lines [] b ne = ap (λ t. cond t ([] ∷ lines (10 ∷ [])) (prepend b (lines (10 ∷ [])))) (ne_eqb b 10 ne) ∙ sym (ap (λ t. cond t ([] ∷ []) (prepend b [])) (ne_eqb b 10 ne))
 same_lines (x ∷ xs) b ne = ap (λ ls. cond (eqb x 10) ([] ∷ ls) (prepend x ls)) (same_lines xs b ne)
-
--- the first field of what is left of a line
-pub field_mark : (bs : List ℕ) (end : ℕ) → end ≡ upto 44 0 bs → end < length bs → fields bs ≡ take (end - 0) bs ∷ fields (drop (end + 1) bs)
-field_mark bs end at h = cut_mark 44 ([] ∷ []) bs 0 end at h
-
-pub field_last : (bs : List ℕ) (end : ℕ) → end ≡ upto 44 0 bs → length bs ≤ end → fields bs ≡ take (end - 0) bs ∷ []
-field_last [] end at h = ap (λ p. p ∷ []) (sym (take_all (end - 0) [] (omega arith)))
-field_last (b ∷ bs) end at h = cut_last 44 ([] ∷ []) (b ∷ bs) 0 end at (λ b. refl) (omega arith) h

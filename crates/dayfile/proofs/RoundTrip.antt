@@ -11,8 +11,7 @@ use Rattle.rulebook.specs.declared.Sender as senders
 use Rattle.rulebook.specs.declared.Sender.TheVariants.{Transferor, Acquirer}
 use Rattle.rulebook.specs.declared.Call.{Call}
 use Rattle.rulebook.specs.declared.Call.TheVariants.{Opening, NewIssue, Placing, Instructing, Cancelling, Blocking, Releasing, Round, Closing, Redeeming, AskingStatus, AskingHolding}
-use Rattle.dayfile.specs.declared.kinds.Form.{Form}
-use Rattle.dayfile.specs.declared.kinds.Form.TheVariants.{Number, Date, Side, Sender, NumberOrBlank, DateOrBlank}
+use Rattle.dayfile.specs.Kinds.{Form, Number, Date, Side, Sender, NumberOrBlank, DateOrBlank}
 use Rattle.dayfile.specs.declared.kinds.Kind.{Kind}
 use Rattle.dayfile.specs.declared.kinds.Kind.TheVariants as kind
 use Rattle.dayfile.specs.Text.{commas, if_ok}

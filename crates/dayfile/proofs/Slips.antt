@@ -1,21 +1,6 @@
--- A slip by what is written on it.
-use Rattle.std.proofs.Common.{◌≡◌, ℕ, ◌+◌, ◌-◌, ◌<◌, List, ◌++◌, length, drop, set, replicate, sym, ap, ◌∙◌, arith}
-use Rattle.std.proofs.lemmas.List.{take-append-drop, length-take-le, length-drop, length-replicate, drop-set-lt, drop-drop, drop-replicate}
-use Rattle.dayfile.specs.declared.slip.Slip.{Slip}
-use Rattle.dayfile.specs.Replies.{written, padded}
-
--- while there is room, the zeros say how long the slip is
-slip_long : (s : Slip) → s.size < 120 → length s.bytes ≡ 120
-slip_long s h = omega (arith, sym (length-drop s.size s.bytes) ∙ ap length s.zeros ∙ length-replicate (120 - s.size) 0)
-
-pub slip_size : (s : Slip) → s.size < 120 → s.size ≡ length (written s)
-slip_size s h = sym (length-take-le s.size s.bytes (omega (arith, slip_long s h)))
-
-pub slip_bytes : (s : Slip) → s.size < 120 → s.bytes ≡ padded (written s)
-slip_bytes s h =
-    sym (take-append-drop s.size s.bytes)
-    ∙ ap (λ u. written s ++ u) s.zeros
-    ∙ ap (λ n. written s ++ replicate (120 - n) 0) (slip_size s h)
+-- Zeros behind what is written.
+use Rattle.std.proofs.Common.{◌≡◌, ℕ, ◌+◌, ◌-◌, List, drop, set, replicate, sym, ap, ◌∙◌, arith}
+use Rattle.std.proofs.lemmas.List.{drop-set-lt, drop-drop, drop-replicate}
 
 one_less : (room size : ℕ) → room - size - 1 ≡ room - (size + 1)
 one_less room size = omega arith

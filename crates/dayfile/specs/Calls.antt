@@ -13,14 +13,14 @@ use Rattle.rulebook.specs.declared.Order.{Order}
 use Rattle.rulebook.specs.declared.Pledge.{Pledge}
 use Rattle.rulebook.specs.declared.Call.{Call}
 use Rattle.rulebook.specs.declared.Call.TheVariants.{Opening, NewIssue, Placing, Instructing, Cancelling, Blocking, Releasing, Round, Closing, Redeeming, AskingStatus, AskingHolding}
-use Rattle.dayfile.specs.declared.kinds.Form.{Form}
 use Rattle.dayfile.specs.declared.kinds.Kind.{Kind}
 use Rattle.dayfile.specs.declared.kinds.Kind.TheVariants as kind
-use Rattle.dayfile.specs.declared.calls.Fault.{Fault}
+use Rattle.rulebook.specs.declared.Fault.{Fault}
+use Rattle.rulebook.specs.Answers as answers
 use Rattle.dayfile.specs.Text.{rest_of, if_ok}
 use Rattle.dayfile.specs.Looks.{Look, field_at}
 use Rattle.dayfile.specs.Readers.{line_fields}
-use Rattle.dayfile.specs.Kinds.{forms, fields_kind}
+use Rattle.dayfile.specs.Kinds.{Form, forms, fields_kind}
 use Rattle.dayfile.specs.Values.{number_of, date_of, side_of, sender_of, fits}
 
 -- the values of the fields with these numbers
@@ -84,12 +84,12 @@ first_fault (f ∷ fm) (x ∷ xs) = cond (fits f x.1) (first_fault fm xs) (Some 
 -- a refusal that is of no field
 abbrev pub of_no_field : {X : Type 0} → Result X Refusal → Result X Fault
 of_no_field (Ok x) = Ok x
-of_no_field (Err r) = Err (record { refusal = r; field = 0 })
+of_no_field (Err r) = Err (answers.of_no_field r)
 
 -- a call, or its first faulty field
-abbrev pub faultless : Option ℕ → Call → Result Call Fault
+abbrev pub faultless : {X : Type 0} → Option ℕ → X → Result X Fault
 faultless None c = Ok c
-faultless (Some n) c = Err (record { refusal = FieldForm; field = n })
+faultless (Some n) c = Err (record { refusal = FieldForm; field = Some n })
 
 abbrev pub kind_call : List (ℕ × Look) → Kind → Result Call Fault
 kind_call fs k = faultless (first_fault (forms k) (rest_of fs)) (call_of k fs)

@@ -1,5 +1,5 @@
 -- The kinds of lines: their letters, and the forms of their fields.
-use Rattle.std.specs.Prelude.{ℕ, cond, List, [], ◌∷◌, length, Some, None, Ok, Err, Option, Result, ◌==◌}
+use Rattle.std.specs.Prelude.{ℕ, cond, List, [], ◌∷◌, length, Some, None, Ok, Err, Option, Result, ok_or, ◌==◌}
 use Rattle.refusals.specs.declared.Refusal.{Refusal}
 use Rattle.refusals.specs.declared.Refusal.TheVariants.{UnknownKind, FieldCount}
 use Rattle.dayfile.specs.Text.{if_some, if_ok}
@@ -7,8 +7,6 @@ use Rattle.dayfile.specs.Looks.{Look, letter_of}
 use Rattle.dayfile.specs.Readers.{line_fields}
 use Rattle.dayfile.specs.declared.kinds.Kind.{Kind}
 use Rattle.dayfile.specs.declared.kinds.Kind.TheVariants.{Opening, NewIssue, Placing, Instructing, Cancelling, Blocking, Releasing, Round, Closing, Redeeming, AskingStatus, AskingHolding}
-use Rattle.dayfile.specs.declared.kinds.Form.{Form}
-use Rattle.dayfile.specs.declared.kinds.Form.TheVariants.{Number, Date, Side, Sender, NumberOrBlank, DateOrBlank}
 
 -- the letter of each kind: D N P T X B F R E M S H
 abbrev pub kind_letter : Kind → ℕ
@@ -35,6 +33,14 @@ kind_among (k ∷ ks) c = cond (kind_letter k == c) (Some k) (kind_among ks c)
 
 abbrev pub kind_of : ℕ → Option Kind
 kind_of c = kind_among kinds c
+
+-- a letter's kind, or a refusal where it names none
+abbrev pub named_kind : ℕ → Result Kind Refusal
+named_kind c = ok_or (kind_of c) UnknownKind
+
+-- the form that a field has to have
+pub data Form : Type 0 where
+  Number Date Side Sender NumberOrBlank DateOrBlank : Form
 
 -- the forms of the fields behind the kind
 abbrev pub forms : Kind → List Form

@@ -5,4 +5,5 @@ pub mod Kinds
 pub mod Replies
 pub mod Values
 pub mod Calls
+pub mod Turns
 pub mod Spelling

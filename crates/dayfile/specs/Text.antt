@@ -1,5 +1,6 @@
 -- Bytes cut into lines and fields.
 use Rattle.std.specs.Prelude.{◌≡◌, ℕ, cond, ◌⊎◌, List, [], ◌∷◌, ◌++◌, Some, None, Ok, Err, Option, Result, ◌==◌, ◌≢◌}
+use Rattle.std.specs.Borrow.{Bor}
 use Rattle.std.specs.List.{AllByRecursion}
 
 -- one byte more in front of the first part
@@ -19,6 +20,11 @@ lines file = parts 10 [] file
 -- fields are parted by commas, and any of them may be blank
 abbrev pub fields : List ℕ → List (List ℕ)
 fields line = parts 44 ([] ∷ []) line
+
+-- the fields of what is left of a line, if anything is
+abbrev pub parts_left : Option (Bor (List ℕ)) → List (List ℕ)
+parts_left None = []
+parts_left (Some rest) = fields rest.now
 
 -- the bytes before the first mark
 abbrev pub before : ℕ → List ℕ → List ℕ

@@ -1,5 +1,5 @@
 -- The values of fields.
-use Rattle.std.specs.Prelude.{ℕ, ◌+◌, ◌-◌, ◌*◌, Bool, true, false, cond, not, ◌&&◌, ◌||◌, List, [], ◌∷◌, length, is_some, Some, None, Option, ◌==◌, nat_le, nat_lt, slice_index}
+use Rattle.std.specs.Prelude.{ℕ, ◌+◌, ◌-◌, ◌*◌, Bool, true, false, cond, not, ◌&&◌, ◌||◌, List, [], ◌∷◌, length, is_some, Some, None, Option, option_map, ◌==◌, nat_le, nat_lt, slice_index}
 use Rattle.std.specs.Str.{all_ascii_digits}
 use Rattle.calendar.specs.declared.Date as calendar
 use Rattle.rulebook.specs.declared.Side as sides
@@ -8,8 +8,7 @@ use Rattle.rulebook.specs.declared.Side.TheVariants.{Own, Customer}
 use Rattle.rulebook.specs.declared.Sender.TheVariants.{Transferor, Acquirer}
 use Rattle.dayfile.specs.Text.{if_some}
 use Rattle.dayfile.specs.Looks.{Look, blank, date, number, letter, letter_of}
-use Rattle.dayfile.specs.declared.kinds.Form.{Form}
-use Rattle.dayfile.specs.declared.kinds.Form.TheVariants.{Number, Date, Side, Sender, NumberOrBlank, DateOrBlank}
+use Rattle.dayfile.specs.Kinds.{Form, Number, Date, Side, Sender, NumberOrBlank, DateOrBlank}
 
 -- the number that digits write behind n
 abbrev pub value_from : ℕ → List ℕ → ℕ
@@ -60,6 +59,10 @@ is_blank blank = true
 is_blank (date bs) = false
 is_blank (number bs) = false
 is_blank (letter bs) = false
+
+-- what a field says that may be blank: nothing if it is, else what it says otherwise
+abbrev pub or_blank : {X : Type 0} → (Look → Option X) → Look → Option (Option X)
+or_blank f l = cond (is_blank l) (Some None) (option_map Some (f l))
 
 -- whether a field is of a form
 abbrev pub fits : Form → Look → Bool

@@ -1,14 +1,15 @@
 // Answer lines.
 ghost use Rattle.std.specs.Prelude.{◌≡◌, ◌+◌, ◌≤◌, length};
-ghost use Rattle.rulebook.specs.Answers.{fate_letter, cause_number, behind_fate, answer_letter, answer_values};
-ghost use Rattle.dayfile.specs.Replies.{written, behind, padded, answer_line};
+ghost use Rattle.rulebook.specs.Answers.{fate_letter, cause_number, behind_fate, answer_values, reply_letter, reply_values};
+ghost use Rattle.dayfile.specs.Replies.{behind, padded, answer_line};
 
 use crate::slip::Slip;
 use refusals::Refusal;
-use rulebook::{Answer, Fate};
+use rulebook::{Answer, Fate, Fault};
 
-// Writes the answer to the line with that number, byte 10 and zeros; the length with byte 10 is answered.
-pub fn write_answer(number: u64, answer: Answer, out: &mut [u8; 120]) -> usize
+// Writes the answer to the line with that number, byte 10 and zeros; the length with byte 10 is answered. The caller's
+// 120 bytes take it: no answer line needs heap.
+pub fn write_answer(number: u64, answer: Result<Answer, Fault>, out: &mut [u8; 120]) -> usize
     ensures bytes { out.new ≡ padded (answer_line number answer) }
     ensures size { result ≡ length (answer_line number answer) }
     ensures room { result ≤ 120 }
@@ -16,30 +17,44 @@ pub fn write_answer(number: u64, answer: Answer, out: &mut [u8; 120]) -> usize
     let mut slip = Slip::new();
     slip.put_number(number);
     slip.put_letter(letter_of(answer));
-    put_values(&mut slip, answer);
+    put_answer(&mut slip, answer);
     slip.put(b'\n');
-    *out = slip.bytes;
-    slip.size
+    slip.hand_out(out)
 }
 
 // A for an acceptance, N for a refusal.
-fn letter_of(answer: Answer) -> u8
-    ensures { result ≡ answer_letter answer }
+fn letter_of(answer: Result<Answer, Fault>) -> u8
+    ensures { result ≡ reply_letter answer }
 {
     match answer {
-        Answer::Refused { .. } => b'N',
-        _ => b'A',
+        Ok(_) => b'A',
+        Err(_) => b'N',
     }
 }
 
-// Writes the values of an answer, each behind a comma.
-fn put_values(slip: &mut Slip, answer: Answer)
-    requires { slip.old.size ≤ 30 }
-    ensures text { written slip.new ≡ behind (written slip.old) (answer_values answer) }
-    ensures size { slip.new.size ≤ slip.old.size + 84 }
+// Writes what stands behind the letter: the values of an acceptance, or the refusal's number and the field.
+fn put_answer(slip: &mut Slip, answer: Result<Answer, Fault>)
+    requires { length slip.old ≤ 30 }
+    ensures text { slip.new ≡ behind slip.old (reply_values answer) }
+    ensures size { length slip.new ≤ length slip.old + 84 }
 {
     match answer {
-        Answer::Opened { today } => slip.put_value(today.number as u64),
+        Ok(answer) => put_values(slip, answer),
+        Err(fault) => {
+            slip.put_value(u64::from(fault.refusal.number()));
+            slip.put_value(fault.field.map_or(0, |number| number as u64));
+        }
+    }
+}
+
+// Writes the values of an acceptance, each behind a comma.
+fn put_values(slip: &mut Slip, answer: Answer)
+    requires { length slip.old ≤ 30 }
+    ensures text { slip.new ≡ behind slip.old (answer_values answer) }
+    ensures size { length slip.new ≤ length slip.old + 84 }
+{
+    match answer {
+        Answer::Opened { today } => slip.put_value(today.map_or(0, |day| u64::from(day.number))),
         Answer::Registered { issue } => slip.put_value(issue as u64),
         Answer::Placed { outstanding } => slip.put_value(outstanding),
         Answer::Instructed { serial } => slip.put_value(serial),
@@ -47,24 +62,20 @@ fn put_values(slip: &mut Slip, answer: Answer)
         Answer::Blocked { blocking } => slip.put_value(blocking),
         Answer::Released { blocking } => slip.put_value(blocking),
         Answer::RoundMade { legs } => slip.put_value(legs),
-        Answer::Closed { legs, refused } => {
-            slip.put_value(legs);
-            slip.put_value(refused);
+        Answer::Closed(ending) => {
+            slip.put_value(ending.legs);
+            slip.put_value(ending.refused);
         }
         Answer::Redeemed { amount } => slip.put_value(amount),
         Answer::Status { fate, cause } => {
             slip.put_letter(fate_letter(fate));
-            slip.put_value(behind_fate(fate, cause_number(cause)));
+            slip.put_value(behind_fate(fate, cause));
         }
         Answer::Holds(held) => {
             slip.put_value(held.own);
             slip.put_value(held.customer);
             slip.put_value(held.blocked_own);
             slip.put_value(held.blocked_customer);
-        }
-        Answer::Refused { refusal, field } => {
-            slip.put_value(refusal.number() as u64);
-            slip.put_value(field);
         }
     }
 }
@@ -87,22 +98,12 @@ fn fate_letter(fate: Fate) -> u8
     }
 }
 
-// What stands behind a fate: a joined instruction's partner, else the cause.
-fn behind_fate(fate: Fate, cause: u64) -> u64
-    ensures { result ≡ behind_fate fate cause }
+// What stands behind a fate: a joined instruction's partner, else the cause, 0 where there is none.
+fn behind_fate(fate: Fate, cause: Option<Refusal>) -> u64
+    ensures { result ≡ behind_fate fate (cause_number cause) }
 {
     match fate {
         Fate::Joined(partner) => partner,
-        _ => cause,
-    }
-}
-
-// A cause as it is shown: 0 where there is none.
-fn cause_number(cause: Option<Refusal>) -> u64
-    ensures { result ≡ cause_number cause }
-{
-    match cause {
-        Some(refusal) => refusal.number() as u64,
-        None => 0,
+        _ => cause.map_or(0, |refusal| u64::from(refusal.number())),
     }
 }

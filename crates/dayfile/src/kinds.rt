@@ -1,12 +1,12 @@
-// The kinds of lines, and the forms of their fields.
-ghost use Rattle.std.specs.Prelude.{◌≡◌, length, ◌==◌};
-ghost use Rattle.dayfile.specs.Kinds.{kind_of, forms, kind_in, fields_kind, read_kind};
-ghost use Rattle.dayfile.specs.Readers.{look, fields_left};
+// The kinds of lines, and how many fields they have.
+ghost use Rattle.std.specs.Prelude.{◌≡◌, length};
+ghost use Rattle.dayfile.specs.Text.{rest_of};
+ghost use Rattle.dayfile.specs.Kinds.{named_kind, forms, fields_kind, read_kind};
 
-use crate::fields::{Field, Fields};
+use crate::fields::Fields;
 use refusals::Refusal;
 
-#[derive(Clone, Copy)]
+#[derive(Clone, Copy, Debug, PartialEq, Eq)]
 pub enum Kind {
     Opening,
     NewIssue,
@@ -22,72 +22,47 @@ pub enum Kind {
     AskingHolding,
 }
 
-// The form that a field has to have.
-#[derive(Clone, Copy)]
-pub(crate) enum Form {
-    Number,
-    Date,
-    Side,
-    Sender,
-    NumberOrBlank,
-    DateOrBlank,
+// The kind that a letter names.
+impl TryFrom<char> for Kind {
+    type Error = Refusal;
+
+    ghost try_from_gives = { λ letter kind. kind ≡ named_kind letter };
+
+    fn try_from(letter: char) -> Result<Kind, Refusal> {
+        match letter {
+            'D' => Ok(Kind::Opening),
+            'N' => Ok(Kind::NewIssue),
+            'P' => Ok(Kind::Placing),
+            'T' => Ok(Kind::Instructing),
+            'X' => Ok(Kind::Cancelling),
+            'B' => Ok(Kind::Blocking),
+            'F' => Ok(Kind::Releasing),
+            'R' => Ok(Kind::Round),
+            'E' => Ok(Kind::Closing),
+            'M' => Ok(Kind::Redeeming),
+            'S' => Ok(Kind::AskingStatus),
+            'H' => Ok(Kind::AskingHolding),
+            _ => Err(Refusal::UnknownKind),
+        }
+    }
 }
 
 impl Kind {
-    // The kind that a letter names.
-    pub fn of(letter: char) -> Option<Kind>
-        ensures { result ≡ kind_of letter }
-    {
-        match letter {
-            'D' => Some(Kind::Opening),
-            'N' => Some(Kind::NewIssue),
-            'P' => Some(Kind::Placing),
-            'T' => Some(Kind::Instructing),
-            'X' => Some(Kind::Cancelling),
-            'B' => Some(Kind::Blocking),
-            'F' => Some(Kind::Releasing),
-            'R' => Some(Kind::Round),
-            'E' => Some(Kind::Closing),
-            'M' => Some(Kind::Redeeming),
-            'S' => Some(Kind::AskingStatus),
-            'H' => Some(Kind::AskingHolding),
-            _ => None,
-        }
-    }
-
-    // The forms of the fields behind the kind.
-    pub(crate) fn forms(self) -> &'static [Form]
-        ensures { result.now ≡ forms self }
+    // How many fields stand behind the kind.
+    fn fields(self) -> usize
+        ensures { result ≡ length (forms self) }
     {
         match self {
-            Kind::Opening | Kind::Round | Kind::Closing => &[],
-            Kind::NewIssue => &[Form::Number, Form::Date],
-            Kind::Placing => &[
-                Form::Number,
-                Form::Number,
-                Form::Side,
-                Form::Number,
-                Form::Number,
-            ],
-            Kind::Instructing => &[
-                Form::Sender,
-                Form::Number,
-                Form::Side,
-                Form::Number,
-                Form::Side,
-                Form::Number,
-                Form::Number,
-                Form::NumberOrBlank,
-                Form::Date,
-                Form::DateOrBlank,
-                Form::NumberOrBlank,
-            ],
-            Kind::Blocking => &[Form::Number, Form::Side, Form::Number, Form::Number],
-            Kind::Cancelling | Kind::Releasing | Kind::Redeeming | Kind::AskingHolding => &[
-                Form::Number,
-                Form::Number,
-            ],
-            Kind::AskingStatus => &[Form::Number],
+            Kind::Opening | Kind::Round | Kind::Closing => 0,
+            Kind::AskingStatus => 1,
+            Kind::NewIssue
+            | Kind::Cancelling
+            | Kind::Releasing
+            | Kind::Redeeming
+            | Kind::AskingHolding => 2,
+            Kind::Blocking => 4,
+            Kind::Placing => 5,
+            Kind::Instructing => 11,
         }
     }
 }
@@ -96,46 +71,22 @@ impl Kind {
 pub fn read_kind(line: &[u8]) -> Result<Kind, Refusal>
     ensures { result ≡ read_kind line.now }
 {
-    let fields = Fields::new(line)?;
-    kind_of(fields)
+    Fields::new(line)?.kind()
 }
 
-// The kind that the first field names, if the right number of fields stands behind it.
-pub(crate) fn kind_of(fields: Fields<'_>) -> Result<Kind, Refusal>
-    ensures { result ≡ fields_kind (fields_left fields.entry) }
-{
-    let mut fields = fields;
-    let Some((_, field)) = fields.next_field() else {
-        return Err(Refusal::UnknownKind);
-    };
-    let Some(kind) = named(field) else {
-        return Err(Refusal::UnknownKind);
-    };
-    if !has_fields(fields, kind.forms().len()) {
-        return Err(Refusal::FieldCount);
+impl Fields<'_> {
+    // The kind that the first field names, if the right number of fields stands behind it: these are left.
+    pub(crate) fn kind(&mut self) -> Result<Kind, Refusal>
+        ensures kind { result ≡ fields_kind self.old }
+        ensures rest { self.new ≡ rest_of self.old }
+    {
+        let (_, field) = self.next().ok_or(Refusal::UnknownKind)?;
+        let letter = field.letter().ok_or(Refusal::UnknownKind)?;
+        let kind = Kind::try_from(letter)?;
+        if self.left() == kind.fields() {
+            Ok(kind)
+        } else {
+            Err(Refusal::FieldCount)
+        }
     }
-    Ok(kind)
-}
-
-// The kind that a field names.
-fn named(field: Field<'_>) -> Option<Kind>
-    ensures { result ≡ kind_in (look field.entry) }
-{
-    match field.letter() {
-        Some(letter) => Kind::of(letter),
-        None => None,
-    }
-}
-
-// Whether that many fields are left.
-fn has_fields(fields: Fields<'_>, count: usize) -> bool
-    ensures { result ≡ (length (fields_left fields.entry) == count) }
-{
-    let mut fields = fields;
-    for _ in 0..count {
-        let Some(_) = fields.next_field() else {
-            return false;
-        };
-    }
-    matches!(fields.next_field(), None)
 }

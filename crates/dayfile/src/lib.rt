@@ -3,6 +3,7 @@
 
 mod answers;
 mod calls;
+mod field;
 mod fields;
 mod kinds;
 mod reader;
@@ -10,7 +11,8 @@ mod slip;
 mod values;
 
 pub use answers::write_answer;
-pub use calls::{Fault, call_letter, read_call};
-pub use fields::{Field, Fields};
+pub use calls::{call_letter, read_call};
+pub use field::Field;
+pub use fields::Fields;
 pub use kinds::{Kind, read_kind};
 pub use reader::Lines;

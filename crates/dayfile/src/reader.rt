@@ -1,22 +1,30 @@
 // Readers that hand out the lines of a file.
-ghost use Rattle.std.specs.Prelude.{◌≡◌, ◌+◌, ◌^◌, ◌<◌, ◌≤◌, length, drop};
-ghost use Rattle.std.specs.Option.{option_map};
-ghost use Rattle.dayfile.specs.Text.{before, first_of, rest_of, LinesParted, SameLines};
-ghost use Rattle.dayfile.specs.Readers.{lines_left, begun, file_lines};
+ghost use Rattle.std.specs.Prelude.{◌≡◌, ℕ, ◌≤◌, List, length, drop, position, ◌==◌};
+ghost use Rattle.std.specs.Iterator.{YieldsFirstRef, item_count};
+ghost use Rattle.dayfile.specs.Text.{before, lines, LinesParted, SameLines};
+ghost use Rattle.dayfile.specs.Readers.{file_lines};
 
 use refusals::Refusal;
+use std::marker::Model;
 
-// A day file, and the place from which it has still to be read.
+// A day file, and the place from which it has still to be read, by a rule of the project for this reader. Contracts see
+// the lines that are left.
 #[derive(Drop)]
 pub struct Lines<'a> {
     file: &'a [u8],
     place: usize,
 }
 
+impl<'a> Model for Lines<'a> {
+    ghost Value = { List (List ℕ) };
+
+    ghost view = { λ r. lines (drop r.place r.file.now) };
+}
+
 impl<'a> Lines<'a> {
     // A reader before the first line; a file of more than 65,536 bytes is refused.
     pub fn new(file: &'a [u8]) -> Result<Lines<'a>, Refusal>
-        ensures lines { begun result ≡ file_lines file.now }
+        ensures lines { result ≡ file_lines file.now }
         ensures parted { LinesParted }
         ensures ends { SameLines }
     {
@@ -25,33 +33,38 @@ impl<'a> Lines<'a> {
         }
         Ok(Lines { file, place: 0 })
     }
+}
 
-    // The next line, without its byte 10.
-    pub fn next_line(&mut self) -> Option<&'a [u8]>
-        ensures line { option_map (λ x. x.now) result ≡ first_of (lines_left self.old) }
-        ensures rest { lines_left self.new ≡ rest_of (lines_left self.old) }
-    {
-        let file = self.file;
-        let from = self.place;
-        if from >= file.len() {
+// The lines that are left, each without its byte 10.
+impl<'a> Iterator for Lines<'a> {
+    type Item = &'a [u8];
+
+    ghost next_gives = { YieldsFirstRef (λ left. left) };
+
+    ghost remaining = { item_count (λ left. left) };
+
+    fn next(&mut self) -> Option<&'a [u8]> {
+        let rest = self.file.get(self.place..)?;
+        if rest.is_empty() {
             return None;
         }
-        let end = end_of(file, from, b'\n');
-        self.place = if end < file.len() { end + 1 } else { end };
-        Some(&file[from..end])
+        let end = end_of(rest, b'\n');
+        self.place += end + 1;
+        Some(&rest[..end])
     }
 }
 
-// Where the part that begins at `from` ends: before the first mark, or with the bytes.
-pub(crate) fn end_of(bytes: &[u8], from: usize, mark: u8) -> usize
-    requires { from ≤ length bytes.now }
-    ensures value { result ≡ from + length (before mark (drop from bytes.now)) }
+// Where the part in front ends: before the first mark, or with the bytes.
+pub(crate) fn end_of(bytes: &[u8], mark: u8) -> usize
+    ensures value { result ≡ length (before mark bytes.now) }
     ensures bound { result ≤ length bytes.now }
-    ensures size { length bytes.now < 2 ^ 64 }
 {
-    let mut end = from;
-    while end < bytes.len() && bytes[end] != mark {
-        end += 1;
-    }
-    end
+    first_mark(bytes, mark).unwrap_or(bytes.len())
+}
+
+// Where the first mark stands, if there is one.
+fn first_mark(bytes: &[u8], mark: u8) -> Option<usize>
+    ensures { result ≡ position (λ b. b == mark) bytes.now }
+{
+    bytes.iter().position(|b| *b == mark)
 }

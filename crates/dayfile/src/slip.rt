@@ -1,13 +1,22 @@
 // A slip of 120 bytes that is written from the front.
-ghost use Rattle.std.specs.Prelude.{◌≡◌, ◌-◌, ◌≤◌, drop, replicate};
+ghost use Rattle.std.specs.Prelude.{◌≡◌, ℕ, ◌-◌, ◌≤◌, List, take, drop, replicate};
+
+use std::marker::Model;
 
 mod pen;
 
-// The first `size` bytes are written, and zeros stand behind them.
-#[derive(Clone, Copy)]
+// The first `size` bytes are written, and zeros stand behind them. Contracts see what is written. The bytes stand in an
+// array with their number beside: an answer line is put into 120 bytes, without heap.
+#[derive(Drop)]
 pub(crate) struct Slip {
-    pub(crate) bytes: [u8; 120],
-    pub(crate) size: usize,
-    ghost within: { size ≤ 120 },
-    ghost zeros: { drop size bytes ≡ replicate (120 - size) 0 },
+    bytes: [u8; 120],
+    size: usize,
+}
+
+impl Model for Slip {
+    ghost Value = { List ℕ };
+
+    ghost view = { λ s. take s.size s.bytes };
+
+    ghost invariant = { λ s. (s.size ≤ 120) × (drop s.size s.bytes ≡ replicate (120 - s.size) 0) };
 }

@@ -1,82 +1,92 @@
 // The values of fields.
-ghost use Rattle.std.specs.Prelude.{◌≡◌, ◌≤◌, true, length};
+ghost use Rattle.std.specs.Prelude.{◌≡◌, ◌≤◌, true, length, Option};
 ghost use Rattle.std.specs.Str.{all_ascii_digits};
+ghost use Rattle.dayfile.specs.Looks.{Look};
 ghost use Rattle.dayfile.specs.Readers.{look};
-ghost use Rattle.dayfile.specs.Values.{value, is_numeral, is_eight, number_of, date_of, side_of, sender_of, is_blank, fits};
+ghost use Rattle.dayfile.specs.Values.{value, is_numeral, is_eight, number_of, date_of, side_of, sender_of, or_blank};
 
-use crate::fields::{Field, all_digits};
-use crate::kinds::Form;
+use crate::field::{Field, all_digits};
 use calendar::Date;
 use rulebook::{Sender, Side};
 
-impl<'a> Field<'a> {
-    // The number that 1 to 16 digits write, without a needless leading 0.
-    pub(crate) fn number(self) -> Option<u64>
-        ensures { result ≡ number_of (look self.entry) }
-    {
-        match self {
+// What a field can say.
+pub(crate) trait FromField: Sized {
+    // what a field of that look says, if it is of the form
+    ghost said: { Look → Option Self };
+
+    // What the field says, if it is of the form.
+    fn from_field(field: Field<'_>) -> Option<Self>
+        ensures { result ≡ said (look field.entry) };
+}
+
+// The number that 1 to 16 digits write, without a needless leading 0.
+impl FromField for u64 {
+    ghost said = { number_of };
+
+    fn from_field(field: Field<'_>) -> Option<u64> {
+        match field {
             Field::Number(bytes) | Field::Date(bytes) if is_numeral(bytes) => Some(value(bytes)),
             _ => None,
         }
     }
+}
 
-    // The date that eight digits write.
-    pub(crate) fn date(self) -> Option<Date>
-        ensures { result ≡ date_of (look self.entry) }
-    {
-        match self {
+impl FromField for usize {
+    ghost said = { number_of };
+
+    fn from_field(field: Field<'_>) -> Option<usize> {
+        u64::from_field(field).map(|number| number as usize)
+    }
+}
+
+// The date that eight digits write.
+impl FromField for Date {
+    ghost said = { date_of };
+
+    fn from_field(field: Field<'_>) -> Option<Date> {
+        match field {
             Field::Date(bytes) if is_eight(bytes) => Some(Date {
                 number: value(bytes) as u32,
             }),
             _ => None,
         }
     }
+}
 
-    // The side that a letter names.
-    pub(crate) fn side(self) -> Option<Side>
-        ensures { result ≡ side_of (look self.entry) }
-    {
-        match self.letter() {
-            Some('O') => Some(Side::Own),
-            Some('C') => Some(Side::Customer),
+// The side that a letter names.
+impl FromField for Side {
+    ghost said = { side_of };
+
+    fn from_field(field: Field<'_>) -> Option<Side> {
+        match field.letter()? {
+            'O' => Some(Side::Own),
+            'C' => Some(Side::Customer),
             _ => None,
-        }
-    }
-
-    // The sender that a letter names.
-    pub(crate) fn sender(self) -> Option<Sender>
-        ensures { result ≡ sender_of (look self.entry) }
-    {
-        match self.letter() {
-            Some('T') => Some(Sender::Transferor),
-            Some('A') => Some(Sender::Acquirer),
-            _ => None,
-        }
-    }
-
-    // Whether the field has no bytes.
-    pub(crate) fn is_blank(self) -> bool
-        ensures { result ≡ is_blank (look self.entry) }
-    {
-        match self {
-            Field::Blank(_) => true,
-            _ => false,
         }
     }
 }
 
-impl Form {
-    // Whether a field is of this form.
-    pub(crate) fn fits(self, field: Field<'_>) -> bool
-        ensures { result ≡ fits self (look field.entry) }
-    {
-        match self {
-            Form::Number => field.number().is_some(),
-            Form::Date => field.date().is_some(),
-            Form::Side => field.side().is_some(),
-            Form::Sender => field.sender().is_some(),
-            Form::NumberOrBlank => field.is_blank() || field.number().is_some(),
-            Form::DateOrBlank => field.is_blank() || field.date().is_some(),
+// The sender that a letter names.
+impl FromField for Sender {
+    ghost said = { sender_of };
+
+    fn from_field(field: Field<'_>) -> Option<Sender> {
+        match field.letter()? {
+            'T' => Some(Sender::Transferor),
+            'A' => Some(Sender::Acquirer),
+            _ => None,
+        }
+    }
+}
+
+// Nothing, which a field without bytes says, or what the field says otherwise.
+impl<T: FromField> FromField for Option<T> {
+    ghost said = { or_blank T.said };
+
+    fn from_field(field: Field<'_>) -> Option<Option<T>> {
+        match field {
+            Field::Blank(_) => Some(None),
+            _ => T::from_field(field).map(Some),
         }
     }
 }
@@ -109,7 +119,7 @@ fn value(bytes: &[u8]) -> u64
 {
     let mut number: u64 = 0;
     for b in bytes {
-        number = number * 10 + (*b - b'0') as u64;
+        number = number * 10 + u64::from(*b - b'0');
     }
     number
 }

@@ -1,38 +1,29 @@
 -- Lines worked one after the other, and the two spellings of a file's end.
-use Rattle.std.proofs.Common.{◌≡◌, ℕ, suc, ◌+◌, ◌≤◌, cond, eqb, leb, List, [], ◌∷◌, ◌++◌, length, Some, None, Ok, Err, Result, sym, refl, ap, ◌∙◌, arith, length-append}
+use Rattle.std.proofs.Common.{◌≡◌, ℕ, suc, ◌+◌, ◌≤◌, cond, eqb, leb, List, [], ◌∷◌, ◌++◌, length, Ok, Err, Result, sym, ap, ◌∙◌, arith, length-append}
 use Rattle.std.proofs.lemmas.List.{append_assoc}
 use Rattle.std.proofs.lemmas.Bool.{cond_both, le-leb}
 use Rattle.refusals.specs.declared.Refusal.{Refusal}
 use Rattle.refusals.specs.declared.Refusal.TheVariants.{FileTooLong}
-use Rattle.rulebook.specs.declared.Answer.{Answer}
 use Rattle.register.specs.Shows.{View}
-use Rattle.dayfile.specs.Text.{lines, prepend, first_of, rest_of, SameLines}
+use Rattle.dayfile.specs.Text.{lines, prepend, SameLines}
 use Rattle.dayfile.specs.Readers.{file_lines}
-use Rattle.desk.specs.Work.{line_step, run_lines, by_lines, LastLineCounts}
+use Rattle.desk.specs.Work.{LineReply, line_step, run_lines, by_lines, LastLineCounts}
 
 -- working goes on behind the answers that are there
-abbrev pub resumed : View → List Answer → List (List ℕ) → View × List Answer
+abbrev pub resumed : View → List LineReply → List (List ℕ) → View × List LineReply
 resumed v done ls = ((run_lines v ls).0, done ++ (run_lines v ls).1)
 
-pub resumed_more : (v : View) (done : List Answer) (l : List ℕ) (ls : List (List ℕ))
+pub resumed_more : (v : View) (done : List LineReply) (l : List ℕ) (ls : List (List ℕ))
     → resumed (line_step v l).0 (done ++ (line_step v l).1 ∷ []) ls ≡ resumed v done (l ∷ ls)
 resumed_more v done l ls =
     let t = line_step v l in
-    ap {B = View × List Answer} (λ ws. ((run_lines t.0 ls).0, ws)) (append_assoc done (t.1 ∷ []) (run_lines t.0 ls).1)
+    ap {B = View × List LineReply} (λ ws. ((run_lines t.0 ls).0, ws)) (append_assoc done (t.1 ∷ []) (run_lines t.0 ls).1)
 
 -- one line more
-pub stepped : (v w : View) (done : List Answer) (l : List ℕ) (before after : List (List ℕ)) (a : Answer) (whole : View × List Answer)
+pub stepped : (v w : View) (done : List LineReply) (l : List ℕ) (before after : List (List ℕ)) (a : LineReply) (whole : View × List LineReply)
     → (w, a) ≡ line_step v l → before ≡ l ∷ after → resumed v done before ≡ whole → resumed w (done ++ a ∷ []) after ≡ whole
 stepped v w done l before after a whole e f h =
-    ap (λ (t : View × Answer). resumed t.0 (done ++ t.1 ∷ []) after) e ∙ resumed_more v done l after ∙ ap (resumed v done) (sym f) ∙ h
-
-pub first_line : (ls : List (List ℕ)) (l : List ℕ) → Some l ≡ first_of ls → ls ≡ l ∷ rest_of ls
-first_line [] l e = let z : ◌≡◌ {A = ℕ} 0 1 = cc in absurd (omega arith)
-first_line (x ∷ xs) l e = let h : l ≡ x = cc in ap (λ y. y ∷ xs) (sym h)
-
-pub no_line : (ls : List (List ℕ)) → None ≡ first_of ls → ls ≡ []
-no_line [] e = refl
-no_line (x ∷ xs) e = let z : ◌≡◌ {A = ℕ} 0 1 = cc in absurd (omega arith)
+    ap (λ (t : View × LineReply). resumed t.0 (done ++ t.1 ∷ []) after) e ∙ resumed_more v done l after ∙ ap (resumed v done) (sym f) ∙ h
 
 prepend_few : (b n : ℕ) (ls : List (List ℕ)) → length ls ≤ n → length (prepend b ls) ≤ n + 1
 prepend_few b n [] h = omega arith

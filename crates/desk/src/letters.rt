@@ -7,7 +7,8 @@ use dayfile::call_letter;
 use register::register::{ON_A_DAY, ON_NO_DAY, SHUT};
 use rulebook::Call;
 
-// Whether a state, by its number, takes calls of a kind, by its letter.
+// Whether a state takes calls of a kind, by its letter. The state is its plain number by a rule of the project: what
+// drives the lines of a file has no enum of registers.
 fn takes(letter: char, state: u8) -> bool
     ensures { result ≡ takes letter state }
 {

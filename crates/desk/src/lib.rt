@@ -5,40 +5,49 @@ mod letters;
 pub mod year;
 
 ghost use Rattle.std.specs.Prelude.{◌≡◌};
-ghost use Rattle.register.specs.Shows.{view};
 ghost use Rattle.desk.specs.Work.{line_step, WorksFile, WorksDay, LastLineCounts};
+ghost use Rattle.desk.specs.declared.FileError.TheVariants.{TooLong, Memory};
 
-use dayfile::{Fault, Lines, read_call};
+use dayfile::{Lines, read_call};
 use letters::suits;
 use refusals::Refusal;
 use register::register::Register;
-use rulebook::Answer;
-use std::alloc::Global;
+use rulebook::{Answer, Fault};
+use std::alloc::{AllocError, Global};
 use year::year_2025;
 
 // Why a file is not worked; no line of it was.
-#[derive(Drop)]
+#[derive(Clone, Copy, Debug, PartialEq, Eq)]
 pub enum FileError {
     TooLong(Refusal),
     Memory,
 }
 
-// Works one line.
-pub fn work_line(register: &mut Register, line: &[u8]) -> Answer
-    ensures { (view register.new, result) ≡ line_step (view register.old) line.now }
-{
-    match read_call(line) {
-        Ok(call) => {
-            if !suits(call, register.state()) {
-                return Answer::Refused {
-                    refusal: Refusal::WrongState,
-                    field: 0,
-                };
-            }
-            register.serve(call)
-        }
-        Err(Fault { refusal, field }) => Answer::Refused { refusal, field },
+impl From<Refusal> for FileError {
+    ghost from_gives = { λ refusal error. error ≡ TooLong refusal };
+
+    fn from(refusal: Refusal) -> FileError {
+        FileError::TooLong(refusal)
     }
+}
+
+impl From<AllocError> for FileError {
+    ghost from_gives = { λ _ error. error ≡ Memory };
+
+    fn from(_error: AllocError) -> FileError {
+        FileError::Memory
+    }
+}
+
+// Works one line.
+pub fn work_line(register: &mut Register, line: &[u8]) -> Result<Answer, Fault>
+    ensures { (register.new, result) ≡ line_step register.old line.now }
+{
+    let call = read_call(line)?;
+    if !suits(call, register.state()) {
+        return Err(Refusal::WrongState.into());
+    }
+    Ok(register.serve(call)?)
 }
 
 // Works a whole file: an answer for each of its lines. The room for all answers is had before the first line is worked.
@@ -46,31 +55,23 @@ pub fn work_file(
     heap: Global,
     register: &mut Register,
     file: &[u8],
-) -> Result<Vec<Answer>, FileError>
-    ensures works { WorksFile (view register.old) file.now (view register.new) result }
+) -> Result<Vec<Result<Answer, Fault>>, FileError>
+    ensures works { WorksFile register.old file.now register.new result }
     ensures last_line { LastLineCounts }
 {
-    let mut lines = match Lines::new(file) {
-        Ok(lines) => lines,
-        Err(refusal) => return Err(FileError::TooLong(refusal)),
-    };
-    let Ok(mut answers) = Vec::with_capacity(heap, file.len()) else {
-        return Err(FileError::Memory);
-    };
-    while let Some(line) = lines.next_line() {
+    let lines = Lines::new(file)?;
+    let mut answers = Vec::with_capacity(heap, file.len())?;
+    for line in lines {
         answers.push_reserved(work_line(register, line));
     }
     Ok(answers)
 }
 
 // Works a file on a new register over the calendar of 2025.
-pub fn work_day(heap: Global, file: &[u8]) -> Result<Vec<Answer>, FileError>
+pub fn work_day(heap: Global, file: &[u8]) -> Result<Vec<Result<Answer, Fault>>, FileError>
     ensures { WorksDay file.now result }
 {
-    let Ok(calendar) = year_2025(heap) else {
-        return Err(FileError::Memory);
-    };
-    let mut register = Register::new(calendar);
+    let mut register = Register::new(year_2025(heap)?);
     let answers = work_file(heap, &mut register, file);
     let _ = register.finish();
     answers

@@ -27,8 +27,5 @@ pub fn year_2025(heap: Global) -> Result<Calendar, AllocError>
     ensures { IfOk result (λ c. days_of c ≡ business_days_2025) }
 {
     let masks = MASKS.to_vec(heap)?;
-    match Calendar::new(2025, 1, masks) {
-        Ok(calendar) => Ok(calendar),
-        Err(_) => unreachable(),
-    }
+    Ok(Calendar::new(2025, 1, masks).unwrap())
 }

@@ -1,43 +1,38 @@
 -- What a register shows, and what each call makes of it.
-use Rattle.std.specs.Prelude.{◌≡◌, ℕ, Bool, cond, List, Ok, Err, Result, ◌==◌}
-use Rattle.refusals.specs.declared.Refusal.{Refusal}
+use Rattle.std.specs.Prelude.{◌≡◌, ℕ, Bool, cond, List, Ok, Err, ◌==◌}
 use Rattle.refusals.specs.declared.Refusal.TheVariants.{WrongState}
 use Rattle.calendar.specs.Days.{next_after}
-use Rattle.calendar.specs.Calendars.{days_of}
+use Rattle.calendar.specs.Calendars.{days_of, dated}
 use Rattle.rulebook.specs.declared.Call.{Call}
 use Rattle.rulebook.specs.declared.Call.TheVariants.{Opening, NewIssue, Placing, Instructing, Cancelling, Blocking, Releasing, Round, Closing, Redeeming, AskingStatus, AskingHolding}
-use Rattle.rulebook.specs.declared.Answer.{Answer}
-use Rattle.rulebook.specs.declared.Answer.TheVariants.{Opened, Closed, Refused}
-use Rattle.rulebook.specs.States.{Standing, shut, opened, closed, opening_date}
-use Rattle.register.specs.declared.register.Register.{Register}
+use Rattle.rulebook.specs.declared.Answer.TheVariants.{Opened, Closed}
+use Rattle.rulebook.specs.Answers.{ending, Reply}
+use Rattle.rulebook.specs.States.{date_of, Standing, shut, opened, closed}
 
 -- the calendar's business days, and how the register stands
 pub record View : Type 0 where
   pub days : List ℕ
   pub standing : Standing
 
-abbrev pub view : Register → View
-view r = record { days = days_of r.calendar; standing = record { state = r.state; day = r.day.number } }
-
 -- a call that the state does not take gets 10, and changes nothing
-abbrev pub untaken : View → View × Answer
-untaken v = (v, Refused WrongState 0)
+abbrev pub untaken : View → View × Reply
+untaken v = (v, Err WrongState)
 
 -- what an opening makes of a shut register, and closing of an open one
-abbrev pub after_opening : View → View × Answer
+abbrev pub after_opening : View → View × Reply
 after_opening v = (
   record { days = v.days; standing = opened v.days v.standing },
-  Opened record { number = opening_date (next_after v.standing.day v.days) },
+  Ok (Opened (dated (next_after v.standing.day v.days))),
 )
 
-abbrev pub after_closing : View → View × Answer
-after_closing v = (record { days = v.days; standing = closed v.standing }, Closed 0 0)
+abbrev pub after_closing : View → View × Reply
+after_closing v = (record { days = v.days; standing = closed v.standing }, Ok (Closed (ending 0 0)))
 
 abbrev pub is_shut : View → Bool
 is_shut v = v.standing.state == shut
 
 -- one call by the rules: opening a shut register and closing an open one; no state takes another call yet
-abbrev pub next : View → Call → View × Answer
+abbrev pub next : View → Call → View × Reply
 next v Opening = cond (is_shut v) (after_opening v) (untaken v)
 next v (NewIssue i d) = untaken v
 next v (Placing o) = untaken v
@@ -52,10 +47,5 @@ next v (AskingStatus n) = untaken v
 next v (AskingHolding p i) = untaken v
 
 -- what every call says: the register before and after, the call, its answer
-abbrev pub Serves : Register → Register → Call → Answer → Type 0
-Serves r r' c a = (view r', a) ≡ next (view r) c
-
--- a typed result as an answer
-abbrev pub answered : {A : Type 0} → (A → Answer) → Result A Refusal → Answer
-answered f (Ok x) = f x
-answered f (Err e) = Refused e 0
+abbrev pub Serves : View → View → Call → Reply → Type 0
+Serves v w c a = (w, a) ≡ next v c

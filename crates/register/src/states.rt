@@ -5,12 +5,12 @@ use crate::register::Register;
 
 pub struct Shut {
     register: Register,
-    ghost shut: { register.state ≡ 0 },
+    ghost shut: { register.standing.state ≡ 0 },
 }
 
 pub struct Open {
     register: Register,
-    ghost open: { 0 < register.state },
+    ghost open: { 0 < register.standing.state },
 }
 
 pub mod turns;

@@ -3,7 +3,7 @@ use Rattle.std.proofs.Common.{◌≡◌, ℕ, ◌+◌, ◌-◌, List, [], ◌∷
 use Rattle.std.proofs.lemmas.List.{append-nil, append_assoc}
 use Rattle.money.specs.Funds.{Funds}
 use Rattle.rulebook.specs.declared.Call.{Call}
-use Rattle.rulebook.specs.declared.Answer.{Answer}
+use Rattle.rulebook.specs.Answers.{Reply}
 use Rattle.rulebook.specs.Words.{Place, Movement, takes, brings, money, out_of, into, after, afters, Amounts, Blocking, Start}
 use Rattle.rulebook.specs.Rules.{answer_by, moves_by}
 use Rattle.rulebook.specs.Journal.{Journal, taken, brought, paid, received, had, reads, new_book, setting_of, Past, new_past, outcome, step, history_from, history, answers_from, View, next, run, first_view, told}
@@ -73,13 +73,13 @@ stepped s h c b =
 
 -- a list of calls
 pub agrees_from : (s : Start) (h : Past) (cs : List Call) → Backed s.funds h.journal
-    → ◌≡◌ {A = View × List Answer} (run (shown s h) cs) (shown s (history_from s h cs), answers_from s h cs)
+    → ◌≡◌ {A = View × List Reply} (run (shown s h) cs) (shown s (history_from s h cs), answers_from s h cs)
 agrees_from s h [] b = refl
 agrees_from s h (c ∷ cs) b =
     let both = stepped s h c b in
-    let after : View × Answer → View × List Answer = λ x. ((run x.0 cs).0, x.1 ∷ (run x.0 cs).1) in
+    let after : View × Reply → View × List Reply = λ x. ((run x.0 cs).0, x.1 ∷ (run x.0 cs).1) in
     ap after both.0
-    ∙ ap (λ (x : View × List Answer). (x.0, answer_by (outcome s h c) ∷ x.1)) (agrees_from s (step s h c) cs both.1)
+    ∙ ap (λ (x : View × List Reply). (x.0, answer_by (outcome s h c) ∷ x.1)) (agrees_from s (step s h c) cs both.1)
 
 pub first_shown : (s : Start) → first_view s ≡ told s []
 first_shown s = λ i. record { setting = setting_of s; book = new_book; amounts = record { nominal = λ p. 0; balance = λ x. had_is x i } }

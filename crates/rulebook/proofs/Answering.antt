@@ -1,19 +1,20 @@
 -- What a call answers: refusals change nothing, and each state takes its own calls.
-use Rattle.std.proofs.Common.{◌≡◌, ℕ, Bool, true, false, eqb, List, [], ◌∷◌, Some, None, Err, Option, Result, refl, ap, ◌∙◌, arith}
+use Rattle.std.proofs.Common.{◌≡◌, ℕ, Bool, true, false, eqb, List, [], ◌∷◌, Some, None, Ok, Err, Option, Result, refl, ap, ◌∙◌, arith}
 use Rattle.std.proofs.lemmas.Bool.{cond_both, cond-false, eq-eqb, both_ways}
 use Rattle.std.proofs.lemmas.Bool.Decides.{nat_tests}
 use Rattle.refusals.specs.declared.Refusal.{Refusal}
-use Rattle.refusals.specs.declared.Refusal.TheVariants.{WrongState}
+use Rattle.refusals.specs.declared.Refusal.TheVariants.{WrongState, NotFound}
 use Rattle.rulebook.specs.declared.Call.{Call}
 use Rattle.rulebook.specs.declared.Call.TheVariants as call
+use Rattle.rulebook.specs.declared.Ending.{Ending}
 use Rattle.rulebook.specs.declared.Answer.{Answer}
 use Rattle.rulebook.specs.declared.Answer.TheVariants as answer
 use Rattle.rulebook.specs.States.{shut, on_no_day}
-use Rattle.rulebook.specs.Answers.{answer_letter}
+use Rattle.rulebook.specs.Answers.{Reply}
 use Rattle.rulebook.specs.Words.{found, Amounts, Instruction, Setting, Book}
 use Rattle.rulebook.specs.Checks.{Check, verdict, has_serial}
 use Rattle.rulebook.specs.Rules.{Outcome, refuses, does, status_of, checks, work, ruled, rule, answer_by, close_work}
-use Rattle.rulebook.specs.Journal.{View, view_by}
+use Rattle.rulebook.specs.Journal.{View, ruling, view_by}
 use Rattle.rulebook.specs.Laws.{suits, StateRefuses, TurnsGranted, RefusalKeeps, KnowsPlainly}
 
 -- each check holds
@@ -39,41 +40,28 @@ pub rule_both : (P : Outcome → Type 0) (st : Setting) (a : Amounts) (k : Book)
     → ((r : Refusal) → P (refuses r)) → (Passes (checks st a k c) → P (work st a k c)) → P (rule st a k c)
 rule_both P st a k c bad good = ruled_both P (checks st a k c) (work st a k c) bad good
 
+-- what holds of a refusal, and of any answer that leaves all as it was, holds of a status asked for
+pub asked : (P : Outcome → Type 0) (st : Setting) (a : Amounts) (k : Book) (n : ℕ)
+    → P (refuses NotFound) → ((w : Answer) → P (does w k [])) → P (work st a k (call.AskingStatus n))
+asked P st a k n bad good = go (found (has_serial n) k.instructions.standing)
+  where
+    go : (i : Option Instruction) → P (status_of k i)
+    go None = bad
+    go (Some i) = good (answer.Status i.fate i.cause)
+
+-- an acceptance is no refusal
+pub accepted : (w : Answer) (r : Refusal) → ◌≡◌ {A = Reply} (Ok w) (Err r) → ⊥
+accepted w r e =
+    let z : ◌≡◌ {A = ℕ} 0 1 = cc in
+    omega arith
+
 -- where the answer is a refusal, nothing changes
-abbrev Keeps : View → Outcome → Type 0
-Keeps v o = (r : Refusal) (field : ℕ) → answer_by o ≡ answer.Refused r field → view_by v o ≡ v
-
-abbrev done : View → Call → Outcome
-done v c = work v.setting v.amounts v.book c
-
--- an accepted call is not refused
-accepting : (v : View) (o : Outcome) → answer_letter (answer_by o) ≡ 65 → Keeps v o
-accepting v o h r field e =
-    let n : answer_letter (answer_by o) ≡ 78 = ap answer_letter e in
-    absurd (omega arith)
-
-asking : (v : View) (i : Option Instruction) → Keeps v (does (status_of i) v.book [])
-asking v None r field e = refl
-asking v (Some i) r field e = refl
-
-working : (v : View) (c : Call) → Keeps v (done v c)
-working v call.Opening = accepting v (done v call.Opening) refl
-working v (call.NewIssue i d) = accepting v (done v (call.NewIssue i d)) refl
-working v (call.Placing o) = accepting v (done v (call.Placing o)) refl
-working v (call.Instructing o) = accepting v (done v (call.Instructing o)) refl
-working v (call.Cancelling p n) = accepting v (done v (call.Cancelling p n)) refl
-working v (call.Blocking o) = accepting v (done v (call.Blocking o)) refl
-working v (call.Releasing p n) = accepting v (done v (call.Releasing p n)) refl
-working v call.Round = accepting v (done v call.Round) refl
-working v call.Closing =
-    accepting v (done v call.Closing)
-    (cond_both (eqb v.book.standing.state on_no_day) _ _ (λ o. answer_letter (answer_by o) ≡ 65) (λ _. refl) (λ _. refl))
-working v (call.Redeeming i p) = accepting v (done v (call.Redeeming i p)) refl
-working v (call.AskingStatus n) = asking v (found (has_serial n) v.book.instructions.standing)
-working v (call.AskingHolding p i) = accepting v (done v (call.AskingHolding p i)) refl
+keeps : (v : View) (o : Outcome) (r : Refusal) → answer_by o ≡ Err r → view_by v o ≡ v
+keeps v (refuses s) r e = refl
+keeps v (does w k vs) r e = absurd (accepted w r e)
 
 pub refusal_keeps : RefusalKeeps
-refusal_keeps v c = rule_both (Keeps v) v.setting v.amounts v.book c (λ r s field e. refl) (λ _. working v c)
+refusal_keeps v c = keeps v (ruling v c)
 
 -- the first check fails
 fails : (v : View) (c : Call) → suits v.book.standing.state c ≡ false
@@ -101,12 +89,11 @@ only_holds : (b : Bool) (o : Outcome) → b ≡ true → ruled (verdict ((b, Wro
 only_holds true o e = refl
 only_holds false o e = absurd (both_ways false refl e)
 
-abbrev Closes : Answer → Type 0
-Closes w = (legs : ℕ) × (refused : ℕ) × (w ≡ answer.Closed legs refused)
+abbrev Closes : Outcome → Type 0
+Closes o = (e : Ending) × (answer_by o ≡ Ok (answer.Closed e))
 
-closes : (st : Setting) (a : Amounts) (k : Book) → Closes (answer_by (close_work st a k))
-closes st a k =
-    cond_both (eqb k.standing.state on_no_day) _ _ (λ o. Closes (answer_by o)) (λ _. (0, 0, refl)) (λ _. (_, _, refl))
+closes : (st : Setting) (a : Amounts) (k : Book) → Closes (close_work st a k)
+closes st a k = cond_both (eqb k.standing.state on_no_day) _ _ Closes (λ _. (_, refl)) (λ _. (_, refl))
 
 pub turns_granted : TurnsGranted
 turns_granted =
@@ -115,7 +102,7 @@ turns_granted =
       closing = λ v e.
           let o = work v.setting v.amounts v.book call.Closing in
           let h = closes v.setting v.amounts v.book in
-          (h.0, h.1, ap answer_by (only_holds _ o e) ∙ h.2);
+          (h.0, ap answer_by (only_holds _ o e) ∙ h.1);
     }
 
 pub knows_plainly : KnowsPlainly

@@ -13,7 +13,7 @@ use Rattle.rulebook.specs.Words.{same_side, Place, place, same, at, Payment, Leg
 use Rattle.rulebook.specs.Checks.{today, affords, place_checks, held, held_back, redeem_checks}
 use Rattle.rulebook.specs.Rounds.{giver, leg_payment, leg, try, try_moves, rounds}
 use Rattle.rulebook.specs.Rules.{checks, work, rule, moves_by, placing, redeeming, rounded}
-use Rattle.rulebook.proofs.Answering.{Passes, rule_both}
+use Rattle.rulebook.proofs.Answering.{Passes, rule_both, asked}
 use Rattle.rulebook.proofs.Ways.{try_both}
 
 pub side_true : (s t : Side) → same_side s t ≡ true → s ≡ t
@@ -108,7 +108,7 @@ moves_along P st a k c placed settled redeemed = rule_both (λ o. Along P (moves
     each call.Round h = round
     each call.Closing h = cond_both (eqb k.standing.state on_no_day) _ _ (λ o. Along P (moves_by o) a) (λ _. tt) (λ _. round)
     each (call.Redeeming i p) h = (redeemed i p h, tt)
-    each (call.AskingStatus n) h = tt
+    each (call.AskingStatus n) h = asked (λ o. Along P (moves_by o) a) st a k n tt (λ _. tt)
     each (call.AskingHolding p i) h = tt
 
 -- what a movement takes is free, and what it pays is there

@@ -13,17 +13,15 @@ use Rattle.rulebook.specs.declared.Order.{Order}
 use Rattle.rulebook.specs.declared.Fate.TheVariants as fate
 use Rattle.rulebook.specs.declared.Call.{Call}
 use Rattle.rulebook.specs.declared.Call.TheVariants as call
-use Rattle.rulebook.specs.declared.Answer.TheVariants as answer
 use Rattle.rulebook.specs.States.{on_no_day}
-use Rattle.rulebook.specs.Answers.{answer_letter}
-use Rattle.rulebook.specs.Words.{found, same_side, Place, at, Amounts, afters, Blocking, Instruction, turned, alike, Numbered, Setting, Book, Start, blocked}
-use Rattle.rulebook.specs.Checks.{Check, verdict, today, is_inside, may_cancel, is_blocking, has_serial}
+use Rattle.rulebook.specs.Words.{same_side, Place, at, Amounts, afters, Blocking, Instruction, turned, alike, Numbered, Setting, Book, Start, blocked}
+use Rattle.rulebook.specs.Checks.{Check, verdict, today, is_inside, may_cancel, is_blocking}
 use Rattle.rulebook.specs.Matching.{same_sender, same_date, same_option, is_partner, pair_up, met, admit, arrive, wake, wake_all, leaves, stayers, cancelled_in}
 use Rattle.rulebook.specs.Rounds.{try, try_moves, rounds, ended}
-use Rattle.rulebook.specs.Rules.{Outcome, does, status_of, checks, work, ruled, answer_by, book_by, standing_now, opens, incoming, granted, rounded, closing_list, close_on_no_day, close_on_a_day}
+use Rattle.rulebook.specs.Rules.{Outcome, checks, work, ruled, answer_by, book_by, standing_now, opens, incoming, granted, rounded, closing_list, close_on_no_day, close_on_a_day}
 use Rattle.rulebook.specs.Journal.{Past, setting_of, reads, new_past, step, history_from, View, view_by}
 use Rattle.rulebook.specs.Laws.{check_numbers, suits, QuestionsKeep, StateTakes, Limited, PlacesLimited, BlockingsStay, SameOrdersEqual}
-use Rattle.rulebook.proofs.Answering.{Passes, rule_both}
+use Rattle.rulebook.proofs.Answering.{Passes, rule_both, asked, accepted}
 use Rattle.rulebook.proofs.Rising.{checks_rise}
 use Rattle.rulebook.proofs.Totals.{total_push}
 use Rattle.rulebook.proofs.Covered.{side_true}
@@ -31,14 +29,16 @@ use Rattle.rulebook.proofs.Covered.{side_true}
 pub questions_keep : QuestionsKeep
 questions_keep =
     record {
-      status = λ v n. rule_both (λ o. view_by v o ≡ v) v.setting v.amounts v.book (call.AskingStatus n) (λ _. refl) (λ _. refl);
+      status = λ v n.
+          rule_both (λ o. view_by v o ≡ v) v.setting v.amounts v.book (call.AskingStatus n) (λ _. refl)
+          (λ _. asked (λ o. view_by v o ≡ v) v.setting v.amounts v.book n refl (λ _. refl));
       holding = λ v p i.
           rule_both (λ o. view_by v o ≡ v) v.setting v.amounts v.book (call.AskingHolding p i) (λ _. refl) (λ _. refl);
     }
 
 -- an outcome that is not refused for the state
 abbrev Other : Outcome → Type 0
-Other o = (field : ℕ) → answer_by o ≡ answer.Refused WrongState field → ⊥
+Other o = answer_by o ≡ Err WrongState → ⊥
 
 lower : (m n : ℕ) (xs : List ℕ) → m ≤ n → RisingAbove n xs → RisingAbove m xs
 lower m n [] l r = tt
@@ -54,29 +54,40 @@ above_ten (c ∷ cs) o r h =
     (Err c.1)
     (λ v. Other (ruled v o))
     (λ _. above_ten cs o (lower 10 (number c.1) (check_numbers cs) (omega (arith, r.0)) r.1) h)
-    (λ _ field e.
+    (λ _ e.
     let w : c.1 ≡ WrongState = cc in
     let n : number c.1 ≡ 10 = ap number w in
     omega (arith, r.0))
 
-first_of : (b : Bool) (cs : List Check) (o : Outcome) → RisingAbove 10 (check_numbers cs) → Other o → (field : ℕ)
-    → answer_by (ruled (verdict ((b, WrongState) ∷ cs)) o) ≡ answer.Refused WrongState field → b ≡ false
-first_of true cs o r h field e = absurd (above_ten cs o r h field e)
-first_of false cs o r h field e = refl
+first_of : (b : Bool) (cs : List Check) (o : Outcome) → RisingAbove 10 (check_numbers cs) → Other o
+    → answer_by (ruled (verdict ((b, WrongState) ∷ cs)) o) ≡ Err WrongState → b ≡ false
+first_of true cs o r h e = absurd (above_ten cs o r h e)
+first_of false cs o r h e = refl
 
-accepts : (o : Outcome) → answer_letter (answer_by o) ≡ 65 → Other o
-accepts o h field e =
-    let n : answer_letter (answer_by o) ≡ 78 = ap answer_letter e in
-    omega arith
+abbrev done : View → Call → Outcome
+done v c = work v.setting v.amounts v.book c
 
-asks : (k : Book) (i : Option Instruction) → Other (does (status_of i) k [])
-asks k None field e =
+-- no call's work is refused for the state
+works : (v : View) (c : Call) → Other (done v c)
+works v call.Opening = accepted _ WrongState
+works v (call.NewIssue i d) = accepted _ WrongState
+works v (call.Placing o) = accepted _ WrongState
+works v (call.Instructing o) = accepted _ WrongState
+works v (call.Cancelling p n) = accepted _ WrongState
+works v (call.Blocking o) = accepted _ WrongState
+works v (call.Releasing p n) = accepted _ WrongState
+works v call.Round = accepted _ WrongState
+works v call.Closing =
+    cond_both (eqb v.book.standing.state on_no_day) _ _ Other (λ _. accepted _ WrongState) (λ _. accepted _ WrongState)
+works v (call.Redeeming i p) = accepted _ WrongState
+works v (call.AskingStatus n) =
+    asked Other v.setting v.amounts v.book n
+    (λ e.
     let w : NotFound ≡ WrongState = cc in
     let n : number NotFound ≡ 10 = ap number w in
-    omega arith
-asks k (Some i) field e =
-    let n : answer_letter (status_of (Some i)) ≡ 78 = ap answer_letter e in
-    omega arith
+    omega arith)
+    (λ w. accepted w WrongState)
+works v (call.AskingHolding p i) = accepted _ WrongState
 
 abbrev rest_of : List Check → List Check
 rest_of [] = []
@@ -85,48 +96,41 @@ rest_of (c ∷ cs) = cs
 abbrev rest : View → Call → List Check
 rest v c = rest_of (checks v.setting v.amounts v.book c)
 
-abbrev done : View → Call → Outcome
-done v c = work v.setting v.amounts v.book c
-
-takes : (v : View) (c : Call) → RisingAbove 10 (check_numbers (rest v c)) → answer_letter (answer_by (done v c)) ≡ 65 → (field : ℕ)
-    → answer_by (ruled (verdict ((suits v.book.standing.state c, WrongState) ∷ rest v c)) (done v c)) ≡ answer.Refused WrongState field
+takes : (v : View) (c : Call) → RisingAbove 10 (check_numbers (rest v c))
+    → answer_by (ruled (verdict ((suits v.book.standing.state c, WrongState) ∷ rest v c)) (done v c)) ≡ Err WrongState
     → suits v.book.standing.state c ≡ false
-takes v c r h = first_of (suits v.book.standing.state c) (rest v c) (done v c) r (accepts (done v c) h)
+takes v c r = first_of (suits v.book.standing.state c) (rest v c) (done v c) r (works v c)
 
 pub states_take : StateTakes
-states_take v call.Opening = takes v call.Opening tt refl
-states_take v (call.NewIssue i d) = takes v (call.NewIssue i d) (checks_rise v.setting v.amounts v.book (call.NewIssue i d)).1 refl
-states_take v (call.Placing o) = takes v (call.Placing o) (checks_rise v.setting v.amounts v.book (call.Placing o)).1 refl
+states_take v call.Opening = takes v call.Opening tt
+states_take v (call.NewIssue i d) = takes v (call.NewIssue i d) (checks_rise v.setting v.amounts v.book (call.NewIssue i d)).1
+states_take v (call.Placing o) = takes v (call.Placing o) (checks_rise v.setting v.amounts v.book (call.Placing o)).1
 states_take v (call.Instructing o) =
-    takes v (call.Instructing o) (checks_rise v.setting v.amounts v.book (call.Instructing o)).1 refl
+    takes v (call.Instructing o) (checks_rise v.setting v.amounts v.book (call.Instructing o)).1
 states_take v (call.Cancelling p n) =
-    takes v (call.Cancelling p n) (checks_rise v.setting v.amounts v.book (call.Cancelling p n)).1 refl
-states_take v (call.Blocking o) = takes v (call.Blocking o) (checks_rise v.setting v.amounts v.book (call.Blocking o)).1 refl
+    takes v (call.Cancelling p n) (checks_rise v.setting v.amounts v.book (call.Cancelling p n)).1
+states_take v (call.Blocking o) = takes v (call.Blocking o) (checks_rise v.setting v.amounts v.book (call.Blocking o)).1
 states_take v (call.Releasing p n) =
-    takes v (call.Releasing p n) (checks_rise v.setting v.amounts v.book (call.Releasing p n)).1 refl
-states_take v call.Round = takes v call.Round tt refl
-states_take v call.Closing =
-    takes v call.Closing tt
-    (cond_both (eqb v.book.standing.state on_no_day) _ _ (λ o. answer_letter (answer_by o) ≡ 65) (λ _. refl) (λ _. refl))
+    takes v (call.Releasing p n) (checks_rise v.setting v.amounts v.book (call.Releasing p n)).1
+states_take v call.Round = takes v call.Round tt
+states_take v call.Closing = takes v call.Closing tt
 states_take v (call.Redeeming i p) =
-    takes v (call.Redeeming i p) (checks_rise v.setting v.amounts v.book (call.Redeeming i p)).1 refl
-states_take v (call.AskingStatus n) = λ field e.
+    takes v (call.Redeeming i p) (checks_rise v.setting v.amounts v.book (call.Redeeming i p)).1
+states_take v (call.AskingStatus n) = λ e.
     absurd
     (above_ten
     (checks v.setting v.amounts v.book (call.AskingStatus n))
     (done v (call.AskingStatus n))
     (omega arith, tt)
-    (asks v.book (found (has_serial n) v.book.instructions.standing))
-    field
+    (works v (call.AskingStatus n))
     e)
-states_take v (call.AskingHolding p i) = λ field e.
+states_take v (call.AskingHolding p i) = λ e.
     absurd
     (above_ten
     (checks v.setting v.amounts v.book (call.AskingHolding p i))
     (done v (call.AskingHolding p i))
     (omega arith, (omega arith, tt))
-    (accepts (done v (call.AskingHolding p i)) refl)
-    field
+    (works v (call.AskingHolding p i))
     e)
 
 -- how long the list is behind each change
@@ -278,7 +282,7 @@ limited_work st a k call.Closing l h =
       length-map (rounded st a k).0 (ended (today k)),
     )))
 limited_work st a k (call.Redeeming i p) l h = l
-limited_work st a k (call.AskingStatus n) l h = l
+limited_work st a k (call.AskingStatus n) l h = asked (λ o. LimitedBook (book_by k o)) st a k n l (λ _. l)
 limited_work st a k (call.AskingHolding p i) l h = l
 
 limited_from : (s : Start) (h : Past) (cs : List Call) → LimitedBook h.book → LimitedBook (history_from s h cs).book
@@ -333,7 +337,8 @@ stays_blocked st a k call.Round p = inl (omega arith)
 stays_blocked st a k call.Closing p =
     cond_both (eqb k.standing.state on_no_day) _ _ (StaysBlocked k call.Closing p) (λ _. inl (omega arith)) (λ _. inl (omega arith))
 stays_blocked st a k (call.Redeeming i q) p = inl (omega arith)
-stays_blocked st a k (call.AskingStatus n) p = inl (omega arith)
+stays_blocked st a k (call.AskingStatus n) p =
+    asked (StaysBlocked k (call.AskingStatus n) p) st a k n (inl (omega arith)) (λ _. inl (omega arith))
 stays_blocked st a k (call.AskingHolding q i) p = inl (omega arith)
 
 pub blockings_stay : BlockingsStay

@@ -1,21 +1,22 @@
 -- Business days pass one by one.
-use Rattle.std.proofs.Common.{◌≡◌, ℕ, suc, ◌+◌, ◌≤◌, Bool, true, false, cond, ◌&&◌, eqb, ltb, leb, List, [], ◌∷◌, length, Some, None, Option, refl, ap, ◌∙◌, subst, inl, inr, arith}
+use Rattle.std.proofs.Common.{◌≡◌, ℕ, suc, ◌+◌, ◌≤◌, Bool, true, false, cond, ◌&&◌, eqb, ltb, leb, List, [], ◌∷◌, length, Some, None, Ok, Option, sym, refl, ap, ◌∙◌, subst, arith}
 use Rattle.std.specs.List.{AllByRecursion}
 use Rattle.std.proofs.lemmas.Bool.{cond_both, cond-true, cond-false, or_left, or_right, eq-eqb}
 use Rattle.std.proofs.lemmas.Bool.Decides.{nat_tests}
 use Rattle.refusals.specs.declared.Refusal.TheVariants.{WrongState}
 use Rattle.calendar.specs.declared.Date.{Date}
 use Rattle.calendar.specs.Days.{passing, RisingAbove, is_business, first_from, next_after, count_between}
+use Rattle.calendar.specs.Calendars.{dated}
 use Rattle.rulebook.specs.declared.Call.{Call}
 use Rattle.rulebook.specs.declared.Call.TheVariants as call
 use Rattle.rulebook.specs.declared.Answer.TheVariants as answer
-use Rattle.rulebook.specs.States.{Standing, on_no_day, opened_on, opening_date}
+use Rattle.rulebook.specs.States.{Standing, on_no_day, opened_on}
 use Rattle.rulebook.specs.Words.{Book}
 use Rattle.rulebook.specs.Checks.{verdict, is_shut}
 use Rattle.rulebook.specs.Rules.{Outcome, ruled, work, answer_by, book_by}
 use Rattle.rulebook.specs.Journal.{View, next}
 use Rattle.rulebook.specs.Laws.{GoesOn, DaysPass}
-use Rattle.rulebook.proofs.Answering.{rule_both}
+use Rattle.rulebook.proofs.Answering.{rule_both, asked, accepted}
 
 -- none from n on is found: all are below n
 none_later : (n : ℕ) (bs : List ℕ) → first_from (n + 1) bs ≡ None → AllByRecursion (λ b. b ≤ n) bs
@@ -60,26 +61,26 @@ next_alone n d low (b ∷ bs) r e = go (leb (n + 1) b) refl e (next_alone n d b 
 
 -- from the last business day to what the calendar has next
 went : (days : List ℕ) (s : Standing) → RisingAbove 0 days → (o : Option ℕ) → next_after s.day days ≡ o
-    → GoesOn days s.day (opening_date o) (opened_on o s).day
-went days s r None e = inl (refl, refl, none_later s.day days e)
-went days s r (Some d) e = let h = next_alone s.day d 0 days r e in inr (h.0, h.1, refl)
+    → GoesOn days s.day (dated o) (opened_on o s).day
+went days s r None e = (refl, none_later s.day days e)
+went days s r (Some d) e = let h = next_alone s.day d 0 days r e in (h.0, h.1, refl)
 
-opening : (v : View) (d : Date) → RisingAbove 0 v.setting.days → (next v call.Opening).1 ≡ answer.Opened d
-    → GoesOn v.setting.days v.book.standing.day d.number (next v call.Opening).0.book.standing.day
+opening : (v : View) (d : Option Date) → RisingAbove 0 v.setting.days → (next v call.Opening).1 ≡ Ok (answer.Opened d)
+    → GoesOn v.setting.days v.book.standing.day d (next v call.Opening).0.book.standing.day
 opening v d r e = go (is_shut v.book) e
   where
     done : Outcome
     done = work v.setting v.amounts v.book call.Opening
 
-    go : (t : Bool) → answer_by (ruled (verdict ((t, WrongState) ∷ [])) done) ≡ answer.Opened d
-        → GoesOn v.setting.days v.book.standing.day d.number (book_by v.book (ruled (verdict ((t, WrongState) ∷ [])) done)).standing.day
+    go : (t : Bool) → answer_by (ruled (verdict ((t, WrongState) ∷ [])) done) ≡ Ok (answer.Opened d)
+        → GoesOn v.setting.days v.book.standing.day d (book_by v.book (ruled (verdict ((t, WrongState) ∷ [])) done)).standing.day
     go true f =
         let s = v.book.standing in
         let days = v.setting.days in
         let o = next_after s.day days in
-        let h : opening_date o ≡ d.number = cc in
+        let h : dated o ≡ d = cc in
         subst (λ n. GoesOn days s.day n (opened_on o s).day) h (went days s r o refl)
-    go false f = let z : ◌≡◌ {A = ℕ} 0 1 = cc in absurd (omega arith)
+    go false f = absurd (accepted (answer.Opened d) WrongState (sym f))
 
 -- the book's day is as it was
 abbrev SameDay : Book → Outcome → Type 0
@@ -96,7 +97,7 @@ stays v (call.Releasing p n) ne = refl
 stays v call.Round ne = refl
 stays v call.Closing ne = cond_both (eqb v.book.standing.state on_no_day) _ _ (SameDay v.book) (λ _. refl) (λ _. refl)
 stays v (call.Redeeming i p) ne = refl
-stays v (call.AskingStatus n) ne = refl
+stays v (call.AskingStatus n) ne = asked (SameDay v.book) v.setting v.amounts v.book n refl (λ _. refl)
 stays v (call.AskingHolding p i) ne = refl
 
 pub days_pass : DaysPass

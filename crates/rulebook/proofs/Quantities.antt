@@ -17,7 +17,7 @@ use Rattle.rulebook.specs.Rules.{Outcome, checks, work, rule, book_by, moves_by,
 use Rattle.rulebook.specs.Journal.{taken, brought, paid, received, had, reads, setting_of, Past, new_past, outcome, step, history}
 use Rattle.rulebook.specs.Laws.{Sensible, places, redeems}
 use Rattle.rulebook.proofs.Totals.{total_push, total_passing_le, sum_below_same, sum_below_zero, sum_below_at, sum_below_shift, sum_below_one, total_append}
-use Rattle.rulebook.proofs.Answering.{Passes, rule_both}
+use Rattle.rulebook.proofs.Answering.{Passes, rule_both, asked}
 use Rattle.rulebook.proofs.Covered.{at_le, Along, LegsKeep, moves_along, Covered, covers}
 use Rattle.rulebook.proofs.Agreement.{Backed, none_backed, entered}
 use Rattle.rulebook.proofs.Ordered.{Orders, orders_hold, orders_plain}
@@ -229,7 +229,7 @@ module _ (st : Setting) (a : Amounts) (k : Book) where
       each call.Closing g =
           cond_both (eqb k.standing.state on_no_day) _ _ BlocksCovered (λ _ h. h) (λ _ h. h)
       each (call.Redeeming i p) g = λ h. h
-      each (call.AskingStatus n) g = λ h. h
+      each (call.AskingStatus n) g = asked BlocksCovered st a k n (λ h. h) (λ _ h. h)
       each (call.AskingHolding p i) g = λ h. h
 
 -- both ends of an order are participants

@@ -9,7 +9,8 @@ use Rattle.rulebook.specs.declared.Side.{Side}
 use Rattle.rulebook.specs.declared.Side.TheVariants.{Own, Customer}
 use Rattle.rulebook.specs.declared.Fate.TheVariants as fate
 use Rattle.rulebook.specs.Words.{one_if, total, same_side, Place, same, Payment, Leg, first, return, Movement, placed, settled, redeemed, is_leg, Amounts, after, afters, Blocking, Instruction, Setting}
-use Rattle.rulebook.specs.Checks.{has_serial, date_of}
+use Rattle.rulebook.specs.States.{date_of}
+use Rattle.rulebook.specs.Checks.{has_serial}
 use Rattle.rulebook.specs.Matching.{same_option}
 use Rattle.rulebook.specs.Rounds.{giver, receiver, leg_payment, leg, is_day, try_moves, rounds}
 use Rattle.rulebook.specs.Journal.{Journal, times}

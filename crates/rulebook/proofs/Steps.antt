@@ -14,7 +14,7 @@ use Rattle.rulebook.specs.Matching.{arrive, wake_all, leavers, stayers, cancelle
 use Rattle.rulebook.specs.Rules.{Outcome, standing_now, numbered_on, placing, redeeming, incoming, rounded, closing_list, close_on_no_day, close_on_a_day, checks, work, ruled, rule, book_by, moves_by}
 use Rattle.rulebook.specs.Journal.{Journal, times, reads, setting_of, Past, new_past, step, history_from, history}
 use Rattle.rulebook.specs.Laws.{is_settlement}
-use Rattle.rulebook.proofs.Answering.{Passes, rule_both}
+use Rattle.rulebook.proofs.Answering.{Passes, rule_both, asked}
 
 module _ (s : Start) (h : Past) (P : Standing → Numbered Instruction → Journal → List Instruction → Type 0) where
   abbrev st : Setting
@@ -78,7 +78,8 @@ module _ (s : Start) (h : Past) (P : Standing → Numbered Instruction → Journ
       w.resting
       (λ e. w.closing (open_yet (eqb k.standing.state on_a_day) (eqb k.standing.state on_no_day) p.0 e))
   each_call w (call.Redeeming i p) = by_checks w (call.Redeeming i p) (λ _. w.plain (redeeming st now k i p ∷ []) (refl, tt))
-  each_call w (call.AskingStatus n) = by_checks w (call.AskingStatus n) (λ _. w.plain [] tt)
+  each_call w (call.AskingStatus n) =
+      by_checks w (call.AskingStatus n) (λ _. asked (By []) st now k n (w.plain [] tt) (λ _. w.plain [] tt))
   each_call w (call.AskingHolding p i) = by_checks w (call.AskingHolding p i) (λ _. w.plain [] tt)
 
 -- movements that are no legs

@@ -9,14 +9,14 @@ use Rattle.calendar.specs.Days.{is_business}
 use Rattle.rulebook.specs.declared.Order.{Order}
 use Rattle.rulebook.specs.declared.Call.{Call}
 use Rattle.rulebook.specs.declared.Call.TheVariants as call
-use Rattle.rulebook.specs.States.{on_no_day}
+use Rattle.rulebook.specs.States.{date_of, on_no_day}
 use Rattle.rulebook.specs.Words.{one_if, total, Place, place, Payment, Leg, first, return, Movement, placed, settled, redeemed, Amounts, Blocking, Instruction, Setting, Book, Start}
-use Rattle.rulebook.specs.Checks.{today, maturity, is_registered, date_of, matures, return_date_fits, dates_fit, is_shut, has_serial}
+use Rattle.rulebook.specs.Checks.{today, maturity, is_registered, matures, return_date_fits, dates_fit, is_shut, has_serial}
 use Rattle.rulebook.specs.Matching.{arrive, leaves, leavers, stayers, cancelled_in}
 use Rattle.rulebook.specs.Rules.{checks, work, rule, book_by, moves_by, opens, incoming, rounded, closing_list, close_on_no_day, close_on_a_day}
 use Rattle.rulebook.specs.Journal.{Past, setting_of, reads, accepted, leaving, outcome, step, new_past, history_from, history}
 use Rattle.rulebook.specs.Laws.{leg_date, moves_as, carries_out, is_settlement, Timely, IssuesTimely}
-use Rattle.rulebook.proofs.Answering.{Passes, rule_both}
+use Rattle.rulebook.proofs.Answering.{Passes, rule_both, asked}
 use Rattle.rulebook.proofs.Totals.{all_passing}
 use Rattle.rulebook.proofs.Covered.{same_true, LegsKeep, moves_along}
 use Rattle.rulebook.proofs.Ministry.{along_all}
@@ -78,7 +78,7 @@ persists st a k c = rule_both (λ o. Persists k (book_by k o)) st a k c (λ _ j 
     each call.Closing h j e =
         cond_both (eqb k.standing.state on_no_day) (close_on_no_day k) (close_on_a_day st a k) (λ o. maturity (book_by k o) j ≡ maturity k j) (λ _. refl) (λ _. refl)
     each (call.Redeeming i p) h j e = refl
-    each (call.AskingStatus n) h j e = refl
+    each (call.AskingStatus n) h j e = asked (λ o. maturity (book_by k o) j ≡ maturity k j) st a k n refl (λ _. refl)
     each (call.AskingHolding p i) h j e = refl
 
 -- lists with the same serials and orders
@@ -153,7 +153,7 @@ listed st a k c l = rule_both (λ o. AllBefore k (book_by k o).instructions.stan
         (λ _. l)
         (λ _. alike_orders (Before k) (rounded st a k).0 (closing_list st a k) (ended_bare (today k) (rounded st a k).0) round)
     each (call.Redeeming i p) h = l
-    each (call.AskingStatus n) h = l
+    each (call.AskingStatus n) h = asked (λ o. AllBefore k (book_by k o).instructions.standing) st a k n l (λ _. l)
     each (call.AskingHolding p i) h = l
 
 leaves_before : (k : Book) (c : Call) → AllBefore k k.instructions.standing → AllBefore k (leaving k c)

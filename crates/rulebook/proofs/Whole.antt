@@ -1,6 +1,6 @@
 -- The journal's laws and the rules' own, whole, and what they say of every call.
 use Rattle.std.proofs.Common.{List, ap}
-use Rattle.rulebook.specs.declared.Answer.{Answer}
+use Rattle.rulebook.specs.Answers.{Reply}
 use Rattle.rulebook.specs.Journal.{View, run, first_view}
 use Rattle.rulebook.specs.Works.{ObeyingWorks, RunsWork}
 use Rattle.rulebook.specs.Laws.{JournalLawful, RulesHold}
@@ -59,5 +59,5 @@ runs_work s sense cs =
     cs
     (run (first_view s) cs).0
     (run (first_view s) cs).1
-    (ap (λ (x : View × List Answer). x.1) e)
-    record { sensible = sense; shows = ap (λ (x : View × List Answer). x.0) e }
+    (ap (λ (x : View × List Reply). x.1) e)
+    record { sensible = sense; shows = ap (λ (x : View × List Reply). x.0) e }

@@ -2,7 +2,7 @@
 use Rattle.std.proofs.Common.{◌≡◌, ℕ, zero, suc, List, [], ◌∷◌, ◌++◌, take, sym, refl, ap, ◌∙◌, subst}
 use Rattle.std.proofs.lemmas.List.{append-nil, append_assoc}
 use Rattle.rulebook.specs.declared.Call.{Call}
-use Rattle.rulebook.specs.declared.Answer.{Answer}
+use Rattle.rulebook.specs.Answers.{Reply}
 use Rattle.rulebook.specs.Words.{Start}
 use Rattle.rulebook.specs.Rules.{Outcome, answer_by}
 use Rattle.rulebook.specs.Journal.{Past, new_past, outcome, step, history_from, answers_from, history, answers, reply, View, ruling, view_by, next, first_view, told}
@@ -25,7 +25,7 @@ answers_take s h (suc n) (d ∷ cs) = ap (λ ws. answer_by (outcome s h d) ∷ w
 
 -- one more call on what the journal of a list of calls shows
 pub told_more : (s : Start) (cs : List Call) (c : Call)
-    → ◌≡◌ {A = View × Answer} (next (told s cs) c) (told s (cs ++ c ∷ []), reply s cs c)
+    → ◌≡◌ {A = View × Reply} (next (told s cs) c) (told s (cs ++ c ∷ []), reply s cs c)
 told_more s cs c =
     (stepped s (history s cs) c (backed s cs)).0
     ∙ ap (λ (h : Past). (shown s h, reply s cs c)) (sym (history_more s new_past cs c))
@@ -35,27 +35,27 @@ pub tells_first : (s : Start) (v : View) → Sensible s → v ≡ first_view s �
 tells_first s v w e = record { sensible = w; shows = e ∙ first_shown s }
 
 -- one more call behind a list of calls
-pub worked_more : (s : Start) (cs : List Call) (v w : View) (ws : List Answer) (c : Call) (a : Answer)
+pub worked_more : (s : Start) (cs : List Call) (v w : View) (ws : List Reply) (c : Call) (a : Reply)
     → ws ≡ answers s cs → Tells v s cs → Works v w c a
     → (ws ++ a ∷ [] ≡ answers s (cs ++ c ∷ [])) × Tells w s (cs ++ c ∷ [])
 worked_more s cs v w ws c a e t h =
     let n = h.continues s cs t in (
-      ap (λ (x : List Answer). x ++ a ∷ []) e
-          ∙ ap (λ (x : Answer). answers s cs ++ x ∷ []) n.0
+      ap (λ (x : List Reply). x ++ a ∷ []) e
+          ∙ ap (λ (x : Reply). answers s cs ++ x ∷ []) n.0
           ∙ sym (answers_more s new_past cs c),
       n.1,
     )
 
 module _ (lawful : JournalLawful) where
-  pub works : (before after : View) (c : Call) (a : Answer) → ◌≡◌ {A = View × Answer} (after, a) (next before c) → Works before after c a
+  pub works : (before after : View) (c : Call) (a : Reply) → ◌≡◌ {A = View × Reply} (after, a) (next before c) → Works before after c a
   works before after c a obeys = record { obeys = obeys; continues = continues }
     where
       continues : Continues before after c a
       continues s cs t =
-          let e : ◌≡◌ {A = View × Answer} (after, a) (told s (cs ++ c ∷ []), reply s cs c) =
+          let e : ◌≡◌ {A = View × Reply} (after, a) (told s (cs ++ c ∷ []), reply s cs c) =
           obeys ∙ ap (λ (v : View). next v c) t.shows ∙ told_more s cs c in (
-            ap (λ (x : View × Answer). x.1) e,
-            record { sensible = t.sensible; shows = ap (λ (x : View × Answer). x.0) e },
+            ap (λ (x : View × Reply). x.1) e,
+            record { sensible = t.sensible; shows = ap (λ (x : View × Reply). x.0) e },
             lawful s t.sensible (cs ++ c ∷ []),
           )
 
@@ -73,7 +73,7 @@ module _ (lawful : JournalLawful) where
     lawful s t.sensible (cs ++ []),
   )
 
-  pub continues_more : (u v w : View) (ds : List Call) (ws : List Answer) (c : Call) (a : Answer)
+  pub continues_more : (u v w : View) (ds : List Call) (ws : List Reply) (c : Call) (a : Reply)
       → ContinuesAll u v ds ws → Works v w c a → ContinuesAll u w (ds ++ c ∷ []) (ws ++ a ∷ [])
   continues_more u v w ds ws c a h k s cs t =
       let b = h s cs t in
@@ -85,7 +85,7 @@ module _ (lawful : JournalLawful) where
       )
 
   -- a whole list of calls on a new register
-  pub worked : (s : Start) (cs : List Call) (v : View) (ws : List Answer) → ws ≡ answers s cs → Tells v s cs → Worked s cs v ws
+  pub worked : (s : Start) (cs : List Call) (v : View) (ws : List Reply) → ws ≡ answers s cs → Tells v s cs → Worked s cs v ws
   worked s cs v ws e t =
       record {
         replies = e;

@@ -12,7 +12,7 @@ use Rattle.rulebook.specs.declared.Order.{Order}
 use Rattle.rulebook.specs.declared.Fate.TheVariants as fate
 use Rattle.rulebook.specs.declared.Placement.{Placement}
 use Rattle.rulebook.specs.declared.Pledge.{Pledge}
-use Rattle.rulebook.specs.States.{shut, on_a_day, on_no_day}
+use Rattle.rulebook.specs.States.{date_of, shut, on_a_day, on_no_day}
 use Rattle.rulebook.specs.Words.{some_passes, same_side, Place, place, Payment, Amounts, Blocking, Instruction, alike, Numbered, Setting, Book, blocked, free, payment, outstanding}
 
 -- a test, and the refusal where it fails
@@ -43,11 +43,6 @@ maturity k i = slice_index_or k.issues i None
 
 abbrev pub is_registered : Book → ℕ → Bool
 is_registered k i = is_some (maturity k i)
-
--- the number of a date, 0 where there is none
-abbrev pub date_of : Option Date → ℕ
-date_of None = 0
-date_of (Some d) = d.number
 
 -- the date on which a registered issue matures
 abbrev pub matures : Book → ℕ → ℕ

@@ -3,8 +3,8 @@ use Rattle.std.specs.Prelude.{ℕ, ◌+◌, ◌-◌, cond, List, [], ◌∷◌, 
 use Rattle.money.specs.Funds.{Funds}
 use Rattle.rulebook.specs.declared.Call.{Call}
 use Rattle.rulebook.specs.declared.Call.TheVariants as call
-use Rattle.rulebook.specs.declared.Answer.{Answer}
 use Rattle.rulebook.specs.States.{new_standing}
+use Rattle.rulebook.specs.Answers.{Reply}
 use Rattle.rulebook.specs.Words.{total, Place, Leg, Movement, takes, brings, money, out_of, into, is_leg, Amounts, afters, Instruction, Setting, Book, book, Start}
 use Rattle.rulebook.specs.Checks.{is_shut}
 use Rattle.rulebook.specs.Matching.{leavers}
@@ -92,18 +92,18 @@ abbrev pub history_from : Start → Past → List Call → Past
 history_from s h [] = h
 history_from s h (c ∷ cs) = history_from s (step s h c) cs
 
-abbrev pub answers_from : Start → Past → List Call → List Answer
+abbrev pub answers_from : Start → Past → List Call → List Reply
 answers_from s h [] = []
 answers_from s h (c ∷ cs) = answer_by (outcome s h c) ∷ answers_from s (step s h c) cs
 
 abbrev pub history : Start → List Call → Past
 history s cs = history_from s new_past cs
 
-abbrev pub answers : Start → List Call → List Answer
+abbrev pub answers : Start → List Call → List Reply
 answers s cs = answers_from s new_past cs
 
 -- the journal's answer to one more call
-abbrev pub reply : Start → List Call → Call → Answer
+abbrev pub reply : Start → List Call → Call → Reply
 reply s cs c = answer_by (outcome s (history s cs) c)
 
 -- all that a register shows
@@ -120,11 +120,11 @@ abbrev pub view_by : View → Outcome → View
 view_by v o = record { setting = v.setting; book = book_by v.book o; amounts = afters (moves_by o) v.amounts }
 
 -- one call on what a register shows: what it shows afterwards, and the answer
-abbrev pub next : View → Call → View × Answer
+abbrev pub next : View → Call → View × Reply
 next v c = (view_by v (ruling v c), answer_by (ruling v c))
 
 -- a list of calls on what a register shows
-abbrev pub run : View → List Call → View × List Answer
+abbrev pub run : View → List Call → View × List Reply
 run v [] = (v, [])
 run v (c ∷ cs) =
     let rest = run (next v c).0 cs in

@@ -1,5 +1,5 @@
 -- What holds over every list of calls, in the subject's words.
-use Rattle.std.specs.Prelude.{◌≡◌, ℕ, ◌+◌, ◌<◌, ◌≤◌, Bool, true, false, cond, not, ◌&&◌, ◌||◌, ◌⊎◌, List, [], ◌∷◌, ◌++◌, map, length, Some, Option, ◌==◌, ◌≢◌, nat_le, nat_lt}
+use Rattle.std.specs.Prelude.{◌≡◌, ℕ, ◌+◌, ◌<◌, ◌≤◌, Bool, true, false, cond, not, ◌&&◌, ◌||◌, ◌⊎◌, List, [], ◌∷◌, ◌++◌, map, length, Some, None, Ok, Err, Option, ◌==◌, ◌≢◌, nat_le, nat_lt}
 use Rattle.std.specs.List.{AllByRecursion}
 use Rattle.refusals.specs.declared.Refusal.{Refusal}
 use Rattle.refusals.specs.declared.Refusal.TheVariants.{WrongState, NominalShort, MoneyShort}
@@ -12,12 +12,12 @@ use Rattle.rulebook.specs.declared.Fate.{Fate}
 use Rattle.rulebook.specs.declared.Fate.TheVariants as fate
 use Rattle.rulebook.specs.declared.Call.{Call}
 use Rattle.rulebook.specs.declared.Call.TheVariants as call
-use Rattle.rulebook.specs.declared.Answer.{Answer}
+use Rattle.rulebook.specs.declared.Ending.{Ending}
 use Rattle.rulebook.specs.declared.Answer.TheVariants as answer
-use Rattle.rulebook.specs.States.{shut, on_a_day, on_no_day, Standing}
-use Rattle.rulebook.specs.Answers.{cause_number}
+use Rattle.rulebook.specs.States.{date_of, shut, on_a_day, on_no_day, Standing}
+use Rattle.rulebook.specs.Answers.{cause_number, Reply}
 use Rattle.rulebook.specs.Words.{one_if, total, sum_below, some_passes, Place, place, same, Payment, Leg, first, return, Movement, placed, settled, redeemed, Amounts, Blocking, Instruction, alike, principal, Numbered, Setting, Book, Start, blocked, free, payment, priced, outstanding}
-use Rattle.rulebook.specs.Checks.{Check, is_registered, date_of, matures, knows, affords, is_inside, is_on_a_day, has_serial}
+use Rattle.rulebook.specs.Checks.{Check, is_registered, matures, knows, affords, is_inside, is_on_a_day, has_serial}
 use Rattle.rulebook.specs.Matching.{joins, same_option, same_order, counter}
 use Rattle.rulebook.specs.Rounds.{giver, leg_payment, is_leg_done, is_leg_refused}
 use Rattle.rulebook.specs.Rules.{checks, opening_day}
@@ -50,19 +50,18 @@ suits s (call.AskingHolding p i) = true
 abbrev pub StateRefuses : Type 0
 StateRefuses =
     (v : View) (c : Call) → suits v.book.standing.state c ≡ false
-    → ◌≡◌ {A = View × Answer} (next v c) (v, answer.Refused WrongState 0)
+    → ◌≡◌ {A = View × Reply} (next v c) (v, Err WrongState)
 
 -- each in its own state, opening and closing are never refused
 pub record TurnsGranted : Type 0 where
   pub opening : (v : View) → v.book.standing.state ≡ shut
-      → (next v call.Opening).1 ≡ answer.Opened (opening_day v.setting v.book)
+      → (next v call.Opening).1 ≡ Ok (answer.Opened (opening_day v.setting v.book))
   pub closing : (v : View) → suits v.book.standing.state call.Closing ≡ true
-      → (legs : ℕ) × (refused : ℕ) × ((next v call.Closing).1 ≡ answer.Closed legs refused)
+      → (e : Ending) × ((next v call.Closing).1 ≡ Ok (answer.Closed e))
 
 -- a refused call changes nothing
 abbrev pub RefusalKeeps : Type 0
-RefusalKeeps =
-    (v : View) (c : Call) (r : Refusal) (field : ℕ) → (next v c).1 ≡ answer.Refused r field → (next v c).0 ≡ v
+RefusalKeeps = (v : View) (c : Call) (r : Refusal) → (next v c).1 ≡ Err r → (next v c).0 ≡ v
 
 -- a start that can be made: 2 to 32 participants that the money side knows, sound funds, business days in order
 pub record Sensible (s : Start) : Type 0 where
@@ -78,7 +77,7 @@ KnowsPlainly = (s : Start) → Sensible s → (p : ℕ) → knows (setting_of s)
 
 -- amounts kept in place and the journal give the same answers, book, nominals and balances
 abbrev pub Agrees : Start → List Call → Type 0
-Agrees s cs = ◌≡◌ {A = View × List Answer} (run (first_view s) cs) (told s cs, answers s cs)
+Agrees s cs = ◌≡◌ {A = View × List Reply} (run (first_view s) cs) (told s cs, answers s cs)
 
 abbrev pub JournalAgrees : Type 0
 JournalAgrees = (s : Start) (cs : List Call) → Agrees s cs
@@ -273,8 +272,7 @@ pub record QuestionsKeep : Type 0 where
 -- only a call that the state does not take is refused for the state
 abbrev pub StateTakes : Type 0
 StateTakes =
-    (v : View) (c : Call) (field : ℕ) → (next v c).1 ≡ answer.Refused WrongState field
-    → suits v.book.standing.state c ≡ false
+    (v : View) (c : Call) → (next v c).1 ≡ Err WrongState → suits v.book.standing.state c ≡ false
 
 -- at most 256 instructions and 64 blockings stand, and the numbers given go up to 999,999
 pub record Limited (is : Numbered Instruction) (bs : Numbered Blocking) : Type 0 where
@@ -372,17 +370,17 @@ CausesSuit =
     → AllByRecursion (λ i. cause_suits i.fate i.cause ≡ true) (accepted (history s cs))
 
 -- opening goes to the one business day that comes next, or, where none is later, to no day
-abbrev pub GoesOn : List ℕ → ℕ → ℕ → ℕ → Type 0
-GoesOn days before answered after =
-    ((answered ≡ 0) × (after ≡ before) × AllByRecursion (λ b. b ≤ before) days)
-    ⊎ ((is_business answered days ≡ true) × (count_between before answered days ≡ 1) × (after ≡ answered))
+abbrev pub GoesOn : List ℕ → ℕ → Option Date → ℕ → Type 0
+GoesOn days before None after = (after ≡ before) × AllByRecursion (λ b. b ≤ before) days
+GoesOn days before (Some d) after =
+    (is_business d.number days ≡ true) × (count_between before d.number days ≡ 1) × (after ≡ d.number)
 
 -- business days pass one by one: none is left out or opened twice, and no call but opening changes the day
 pub record DaysPass : Type 0 where
-  pub opening : (v : View) (d : Date)
+  pub opening : (v : View) (d : Option Date)
       → RisingAbove 0 v.setting.days
-      → (next v call.Opening).1 ≡ answer.Opened d
-      → GoesOn v.setting.days v.book.standing.day d.number (next v call.Opening).0.book.standing.day
+      → (next v call.Opening).1 ≡ Ok (answer.Opened d)
+      → GoesOn v.setting.days v.book.standing.day d (next v call.Opening).0.book.standing.day
   pub others : (v : View) (c : Call)
       → (c ≢ call.Opening)
       → (next v c).0.book.standing.day ≡ v.book.standing.day

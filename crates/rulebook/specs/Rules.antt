@@ -4,6 +4,7 @@ use Rattle.refusals.specs.declared.Refusal.{Refusal}
 use Rattle.refusals.specs.declared.Refusal.TheVariants.{NotFound}
 use Rattle.calendar.specs.declared.Date.{Date}
 use Rattle.calendar.specs.Days.{passing, next_after}
+use Rattle.calendar.specs.Calendars.{dated}
 use Rattle.rulebook.specs.declared.Side.TheVariants.{Own, Customer}
 use Rattle.rulebook.specs.declared.Order.{Order}
 use Rattle.rulebook.specs.declared.Fate.TheVariants as fate
@@ -14,7 +15,8 @@ use Rattle.rulebook.specs.declared.Call.{Call}
 use Rattle.rulebook.specs.declared.Call.TheVariants as call
 use Rattle.rulebook.specs.declared.Answer.{Answer}
 use Rattle.rulebook.specs.declared.Answer.TheVariants as answer
-use Rattle.rulebook.specs.States.{on_no_day, opened, closed, opening_date}
+use Rattle.rulebook.specs.States.{on_no_day, opened, closed}
+use Rattle.rulebook.specs.Answers.{ending, Reply}
 use Rattle.rulebook.specs.Words.{found, place, Movement, placed, redeemed, Amounts, Blocking, Instruction, Numbered, Setting, Book, book, blocked, payment, outstanding}
 use Rattle.rulebook.specs.Checks.{Check, verdict, today, open_checks, issue_checks, place_checks, instruct_checks, cancel_checks, pledge_place, block_checks, is_blocking, release_checks, round_checks, close_checks, held, redeem_checks, has_serial, status_checks, holding_checks}
 use Rattle.rulebook.specs.Matching.{arrive, wake_all, stayers, cancelled_in}
@@ -46,8 +48,9 @@ opens st k =
     k.blockings
     (standing_now k.instructions (wake_all s.day [] (stayers k.instructions.standing)))
 
-abbrev pub opening_day : Setting → Book → Date
-opening_day st k = record { number = opening_date (next_after (today k) st.days) }
+-- the business day that opening comes to, if one is left
+abbrev pub opening_day : Setting → Book → Option Date
+opening_day st k = dated (next_after (today k) st.days)
 
 -- a new issue has a maturity
 abbrev pub with_issue : Book → ℕ → Date → Book
@@ -109,11 +112,14 @@ abbrev pub legs_refused : Setting → Amounts → Book → ℕ
 legs_refused st a k = moved_to is_leg_refused (rounded st a k).0 (closing_list st a k)
 
 abbrev pub close_on_no_day : Book → Outcome
-close_on_no_day k = does (answer.Closed 0 0) (shuts k k.instructions.standing) []
+close_on_no_day k = does (answer.Closed (ending 0 0)) (shuts k k.instructions.standing) []
 
 abbrev pub close_on_a_day : Setting → Amounts → Book → Outcome
 close_on_a_day st a k =
-    does (answer.Closed (legs_done st a k) (legs_refused st a k)) (shuts k (closing_list st a k)) (rounded st a k).1
+    does
+    (answer.Closed (ending (legs_done st a k) (legs_refused st a k)))
+    (shuts k (closing_list st a k))
+    (rounded st a k).1
 
 abbrev pub close_work : Setting → Amounts → Book → Outcome
 close_work st a k = cond (k.standing.state == on_no_day) (close_on_no_day k) (close_on_a_day st a k)
@@ -129,10 +135,10 @@ redeeming st a k i p =
     (a.nominal (place p i Customer))
     (payment st 0 p (held a p i))
 
--- the status of an instruction on the list
-abbrev pub status_of : Option Instruction → Answer
-status_of None = answer.Refused NotFound 0
-status_of (Some i) = answer.Status i.fate i.cause
+-- the status of an instruction, if it is on the list
+abbrev pub status_of : Book → Option Instruction → Outcome
+status_of k None = refuses NotFound
+status_of k (Some i) = does (answer.Status i.fate i.cause) k []
 
 -- what a participant holds of an issue
 abbrev pub holding_of : Amounts → List Blocking → ℕ → ℕ → Holding
@@ -172,7 +178,7 @@ work st a k (call.Releasing p n) = does (answer.Released n) (without_blocking k 
 work st a k call.Round = does (answer.RoundMade (legs_done st a k)) (with_list k (rounded st a k).0) (rounded st a k).1
 work st a k call.Closing = close_work st a k
 work st a k (call.Redeeming i p) = does (answer.Redeemed (held a p i)) k (redeeming st a k i p ∷ [])
-work st a k (call.AskingStatus n) = does (status_of (found (has_serial n) k.instructions.standing)) k []
+work st a k (call.AskingStatus n) = status_of k (found (has_serial n) k.instructions.standing)
 work st a k (call.AskingHolding p i) = does (answer.Holds (holding_of a k.blockings.standing p i)) k []
 
 -- the first failed check is answered; else the call does its work
@@ -184,9 +190,9 @@ abbrev pub rule : Setting → Amounts → Book → Call → Outcome
 rule st a k c = ruled (verdict (checks st a k c)) (work st a k c)
 
 -- the answer by an outcome, the book that it leaves, and what it moves: a refusal leaves everything as it was
-abbrev pub answer_by : Outcome → Answer
-answer_by (refuses r) = answer.Refused r 0
-answer_by (does w k vs) = w
+abbrev pub answer_by : Outcome → Reply
+answer_by (refuses r) = Err r
+answer_by (does w k vs) = Ok w
 
 abbrev pub book_by : Book → Outcome → Book
 book_by k (refuses r) = k

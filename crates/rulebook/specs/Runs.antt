@@ -1,11 +1,11 @@
 -- Two runs, whole: their calls, and what they are answered.
-use Rattle.std.specs.Prelude.{◌≡◌, List, [], ◌∷◌, ◌++◌, map, Some, None}
+use Rattle.std.specs.Prelude.{◌≡◌, List, [], ◌∷◌, ◌++◌, map, Some, None, Ok, Err}
 use Rattle.rulebook.specs.declared.Sender.TheVariants.{Transferor, Acquirer}
 use Rattle.rulebook.specs.declared.Fate.TheVariants as fate
 use Rattle.rulebook.specs.declared.Call.{Call}
 use Rattle.rulebook.specs.declared.Call.TheVariants.{Opening, NewIssue, Releasing, Round, Closing, AskingStatus, AskingHolding, Cancelling, Blocking, Redeeming}
-use Rattle.rulebook.specs.declared.Answer.{Answer}
-use Rattle.rulebook.specs.declared.Answer.TheVariants.{Opened, Registered, Placed, Instructed, Blocked, Released, RoundMade, Closed, Status, Holds, Cancelled, Redeemed, Refused}
+use Rattle.rulebook.specs.declared.Answer.TheVariants.{Opened, Registered, Placed, Instructed, Blocked, Released, RoundMade, Closed, Status, Holds, Cancelled, Redeemed}
+use Rattle.rulebook.specs.Answers.{ending, Reply}
 use Rattle.rulebook.specs.Journal.{history, answers, reads, first_view, run}
 use Rattle.rulebook.specs.Sheet.{january, rich, placement, transfer, pledge, stocked, inside}
 use Rattle.refusals.specs.declared.Refusal.TheVariants.{WrongState, NominalShort, MoneyShort, NoPartner, NotFound}
@@ -29,20 +29,20 @@ day =
     ∷ []
 
 -- what it is answered
-abbrev pub day_answers : List Answer
+abbrev pub day_answers : List Reply
 day_answers =
-    Opened (january 2)
-    ∷ Registered 4
-    ∷ Placed 50000
-    ∷ Instructed 1
-    ∷ Instructed 2
-    ∷ Blocked 1
-    ∷ RoundMade 0
-    ∷ Released 1
-    ∷ RoundMade 1
-    ∷ Holds record { own = 30000; customer = 0; blocked_own = 0; blocked_customer = 0 }
-    ∷ Status (fate.Joined 1) None
-    ∷ Closed 0 0
+    Ok (Opened (Some (january 2)))
+    ∷ Ok (Registered 4)
+    ∷ Ok (Placed 50000)
+    ∷ Ok (Instructed 1)
+    ∷ Ok (Instructed 2)
+    ∷ Ok (Blocked 1)
+    ∷ Ok (RoundMade 0)
+    ∷ Ok (Released 1)
+    ∷ Ok (RoundMade 1)
+    ∷ Ok (Holds record { own = 30000; customer = 0; blocked_own = 0; blocked_customer = 0 })
+    ∷ Ok (Status (fate.Joined 1) None)
+    ∷ Ok (Closed (ending 0 0))
     ∷ []
 
 -- a week: kept, matched, waiting, refused, cancelled, a return refused, redemptions
@@ -89,48 +89,48 @@ week =
     ∷ []
 
 -- what it is answered
-abbrev pub week_answers : List Answer
+abbrev pub week_answers : List Reply
 week_answers =
-    Opened (january 2)
-    ∷ Registered 4
-    ∷ Placed 50000
-    ∷ Instructed 1
-    ∷ Instructed 2
-    ∷ Instructed 3
-    ∷ Instructed 4
-    ∷ Instructed 5
-    ∷ Refused NotFound 0
-    ∷ Cancelled 5
-    ∷ Instructed 6
-    ∷ Instructed 7
-    ∷ Instructed 8
-    ∷ Instructed 9
-    ∷ RoundMade 2
-    ∷ Closed 0 2
-    ∷ Status fate.Refused (Some NoPartner)
-    ∷ Status fate.Refused (Some NominalShort)
-    ∷ Status (fate.Joined 7) None
-    ∷ Refused WrongState 0
-    ∷ Opened (january 3)
-    ∷ Refused NotFound 0
-    ∷ Status (fate.Joined 3) None
-    ∷ RoundMade 1
-    ∷ Closed 0 0
-    ∷ Opened (january 6)
-    ∷ Closed 0 0
-    ∷ Opened (january 7)
-    ∷ Blocked 1
-    ∷ Closed 0 1
-    ∷ Status fate.ReturnRefused (Some NominalShort)
-    ∷ Opened (january 8)
-    ∷ Closed 0 0
-    ∷ Opened (january 9)
-    ∷ Closed 0 0
-    ∷ Opened (january 10)
-    ∷ Redeemed 29900
-    ∷ Refused NominalShort 0
-    ∷ Released 1
-    ∷ Refused MoneyShort 0
+    Ok (Opened (Some (january 2)))
+    ∷ Ok (Registered 4)
+    ∷ Ok (Placed 50000)
+    ∷ Ok (Instructed 1)
+    ∷ Ok (Instructed 2)
+    ∷ Ok (Instructed 3)
+    ∷ Ok (Instructed 4)
+    ∷ Ok (Instructed 5)
+    ∷ Err NotFound
+    ∷ Ok (Cancelled 5)
+    ∷ Ok (Instructed 6)
+    ∷ Ok (Instructed 7)
+    ∷ Ok (Instructed 8)
+    ∷ Ok (Instructed 9)
+    ∷ Ok (RoundMade 2)
+    ∷ Ok (Closed (ending 0 2))
+    ∷ Ok (Status fate.Refused (Some NoPartner))
+    ∷ Ok (Status fate.Refused (Some NominalShort))
+    ∷ Ok (Status (fate.Joined 7) None)
+    ∷ Err WrongState
+    ∷ Ok (Opened (Some (january 3)))
+    ∷ Err NotFound
+    ∷ Ok (Status (fate.Joined 3) None)
+    ∷ Ok (RoundMade 1)
+    ∷ Ok (Closed (ending 0 0))
+    ∷ Ok (Opened (Some (january 6)))
+    ∷ Ok (Closed (ending 0 0))
+    ∷ Ok (Opened (Some (january 7)))
+    ∷ Ok (Blocked 1)
+    ∷ Ok (Closed (ending 0 1))
+    ∷ Ok (Status fate.ReturnRefused (Some NominalShort))
+    ∷ Ok (Opened (Some (january 8)))
+    ∷ Ok (Closed (ending 0 0))
+    ∷ Ok (Opened (Some (january 9)))
+    ∷ Ok (Closed (ending 0 0))
+    ∷ Ok (Opened (Some (january 10)))
+    ∷ Ok (Redeemed 29900)
+    ∷ Err NominalShort
+    ∷ Ok (Released 1)
+    ∷ Err MoneyShort
     ∷ []
 
 -- the journal and amounts kept in place both give these answers, and the day ends with these balances

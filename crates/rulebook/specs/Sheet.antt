@@ -1,5 +1,5 @@
 -- The edge cases of the rules, on one sheet: the year 2025, and issue 4 that matures on the 10th.
-use Rattle.std.specs.Prelude.{◌≡◌, ℕ, ◌+◌, List, [], ◌∷◌, ◌++◌, Some, None, Option}
+use Rattle.std.specs.Prelude.{◌≡◌, ℕ, ◌+◌, List, [], ◌∷◌, ◌++◌, Some, None, Ok, Err, Option}
 use Rattle.refusals.specs.declared.Refusal.TheVariants.{AmountLimits, WrongDate, InstructionShape, NominalShort, MoneyShort, NoPartner}
 use Rattle.calendar.specs.declared.Date.{Date}
 use Rattle.calendar.specs.Masks.{business_days as calendar-days}
@@ -9,7 +9,7 @@ use Rattle.rulebook.specs.declared.Sender.TheVariants.{Transferor, Acquirer}
 use Rattle.rulebook.specs.declared.Fate.TheVariants as fate
 use Rattle.rulebook.specs.declared.Call.{Call}
 use Rattle.rulebook.specs.declared.Call.TheVariants.{Opening, NewIssue, Placing, Instructing, Blocking, Round, Closing, AskingStatus}
-use Rattle.rulebook.specs.declared.Answer.TheVariants.{Placed, Instructed, Blocked, RoundMade, Status, Refused}
+use Rattle.rulebook.specs.declared.Answer.TheVariants.{Placed, Instructed, Blocked, RoundMade, Status}
 use Rattle.rulebook.specs.Words.{Start}
 use Rattle.rulebook.specs.Journal.{reply}
 
@@ -109,38 +109,38 @@ two_sellers = stocked ++ sale Transferor ∷ sale Transferor ∷ sale Acquirer �
 
 pub record Sheet : Type 0 where
   -- a nominal of 99 is refused, 100 passes
-  pub placing_99 : reply rich registered (placement 99) ≡ Refused AmountLimits 0
-  pub placing_100 : reply rich registered (placement 100) ≡ Placed 100
-  pub instructing_99 : reply rich stocked (transfer Transferor 99 None 2 None None) ≡ Refused AmountLimits 0
-  pub instructing_100 : reply rich stocked (transfer Transferor 100 None 2 None None) ≡ Instructed 1
-  pub blocking_99 : reply rich stocked (pledge 99) ≡ Refused AmountLimits 0
-  pub blocking_100 : reply rich stocked (pledge 100) ≡ Blocked 1
+  pub placing_99 : reply rich registered (placement 99) ≡ Err AmountLimits
+  pub placing_100 : reply rich registered (placement 100) ≡ Ok (Placed 100)
+  pub instructing_99 : reply rich stocked (transfer Transferor 99 None 2 None None) ≡ Err AmountLimits
+  pub instructing_100 : reply rich stocked (transfer Transferor 100 None 2 None None) ≡ Ok (Instructed 1)
+  pub blocking_99 : reply rich stocked (pledge 99) ≡ Err AmountLimits
+  pub blocking_100 : reply rich stocked (pledge 100) ≡ Ok (Blocked 1)
   -- value date 9 January passes; 10 January, which is maturity, and Sunday 5 January do not
-  pub value_9th : reply rich stocked (transfer Transferor 100 None 9 None None) ≡ Instructed 1
-  pub value_10th : reply rich stocked (transfer Transferor 100 None 10 None None) ≡ Refused WrongDate 0
-  pub value_sunday : reply rich stocked (transfer Transferor 100 None 5 None None) ≡ Refused WrongDate 0
+  pub value_9th : reply rich stocked (transfer Transferor 100 None 9 None None) ≡ Ok (Instructed 1)
+  pub value_10th : reply rich stocked (transfer Transferor 100 None 10 None None) ≡ Err WrongDate
+  pub value_sunday : reply rich stocked (transfer Transferor 100 None 5 None None) ≡ Err WrongDate
   -- blocking passes on 7 January and is too late on the 8th
-  pub blocking_7th : reply rich (stocked ++ next_day ++ next_day ++ next_day) (pledge 100) ≡ Blocked 1
-  pub blocking_8th : reply rich (stocked ++ next_day ++ next_day ++ next_day ++ next_day) (pledge 100) ≡ Refused WrongDate 0
+  pub blocking_7th : reply rich (stocked ++ next_day ++ next_day ++ next_day) (pledge 100) ≡ Ok (Blocked 1)
+  pub blocking_8th : reply rich (stocked ++ next_day ++ next_day ++ next_day ++ next_day) (pledge 100) ≡ Err WrongDate
   -- a balance equal to the price settles, one less waits with 20
-  pub money_equal : reply (three (0 ∷ 49500 ∷ 19900 ∷ [])) (stocked ++ sold) Round ≡ RoundMade 1
-  pub money_less : reply (three (0 ∷ 49500 ∷ 19899 ∷ [])) (stocked ++ sold) Round ≡ RoundMade 0
+  pub money_equal : reply (three (0 ∷ 49500 ∷ 19900 ∷ [])) (stocked ++ sold) Round ≡ Ok (RoundMade 1)
+  pub money_less : reply (three (0 ∷ 49500 ∷ 19899 ∷ [])) (stocked ++ sold) Round ≡ Ok (RoundMade 0)
   pub money_waits :
-      reply (three (0 ∷ 49500 ∷ 19899 ∷ [])) (stocked ++ sold ++ Round ∷ []) (AskingStatus 1) ≡ Status fate.Matched (Some MoneyShort)
+      reply (three (0 ∷ 49500 ∷ 19899 ∷ [])) (stocked ++ sold ++ Round ∷ []) (AskingStatus 1) ≡ Ok (Status fate.Matched (Some MoneyShort))
   -- free nominal equal to the leg's settles, one less waits with 19
-  pub nominal_equal : reply rich (stocked ++ sold ++ pledge 30000 ∷ []) Round ≡ RoundMade 1
-  pub nominal_less : reply rich (stocked ++ sold ++ pledge 30001 ∷ []) Round ≡ RoundMade 0
+  pub nominal_equal : reply rich (stocked ++ sold ++ pledge 30000 ∷ []) Round ≡ Ok (RoundMade 1)
+  pub nominal_less : reply rich (stocked ++ sold ++ pledge 30001 ∷ []) Round ≡ Ok (RoundMade 0)
   pub nominal_waits :
-      reply rich (stocked ++ sold ++ pledge 30001 ∷ Round ∷ []) (AskingStatus 1) ≡ Status fate.Matched (Some NominalShort)
+      reply rich (stocked ++ sold ++ pledge 30001 ∷ Round ∷ []) (AskingStatus 1) ≡ Ok (Status fate.Matched (Some NominalShort))
   -- with one agent for both and balance 0, a priced leg settles
-  pub agent_settles : reply one_agent (stocked ++ sold) Round ≡ RoundMade 1
+  pub agent_settles : reply one_agent (stocked ++ sold) Round ≡ Ok (RoundMade 1)
   -- own to customer inside one participant: the transferor may send it, the acquirer may not
-  pub inside_transferor : reply rich stocked (inside Transferor) ≡ Instructed 1
-  pub inside_acquirer : reply rich stocked (inside Acquirer) ≡ Refused InstructionShape 0
+  pub inside_transferor : reply rich stocked (inside Transferor) ≡ Ok (Instructed 1)
+  pub inside_acquirer : reply rich stocked (inside Acquirer) ≡ Err InstructionShape
   -- a return date equal to the value date is refused
   pub return_same_day :
-      reply rich stocked (transfer Transferor 20000 (Some 19900) 2 (Some (january 2)) (Some 19950)) ≡ Refused WrongDate 0
+      reply rich stocked (transfer Transferor 20000 (Some 19900) 2 (Some (january 2)) (Some 19950)) ≡ Err WrongDate
   -- of two equal transferor's instructions the lower matches the acquirer's; the other finds no partner
-  pub lower_matches : reply rich two_sellers (AskingStatus 3) ≡ Status (fate.Joined 1) None
-  pub lower_settles : reply rich (two_sellers ++ Closing ∷ []) (AskingStatus 1) ≡ Status fate.Settled None
-  pub other_refused : reply rich (two_sellers ++ Closing ∷ []) (AskingStatus 2) ≡ Status fate.Refused (Some NoPartner)
+  pub lower_matches : reply rich two_sellers (AskingStatus 3) ≡ Ok (Status (fate.Joined 1) None)
+  pub lower_settles : reply rich (two_sellers ++ Closing ∷ []) (AskingStatus 1) ≡ Ok (Status fate.Settled None)
+  pub other_refused : reply rich (two_sellers ++ Closing ∷ []) (AskingStatus 2) ≡ Ok (Status fate.Refused (Some NoPartner))

@@ -1,6 +1,12 @@
 -- A register is shut, open on a business day, or open on no day.
 use Rattle.std.specs.Prelude.{ℕ, cond, List, Some, None, Option, ◌==◌}
+use Rattle.calendar.specs.declared.Date.{Date}
 use Rattle.calendar.specs.Days.{next_after}
+
+-- the number of a date, 0 where there is none
+abbrev pub date_of : Option Date → ℕ
+date_of None = 0
+date_of (Some d) = d.number
 
 -- the numbers of the three states
 abbrev pub shut : ℕ
@@ -33,11 +39,10 @@ opened days s = opened_on (next_after s.day days) s
 abbrev pub closed : Standing → Standing
 closed s = record { state = shut; day = s.day }
 
--- the date that opening answers: the business day, or 0 where there is none
-abbrev pub opening_date : Option ℕ → ℕ
-opening_date None = 0
-opening_date (Some d) = d
+-- the business day on which a register is open, if it is open on one
+abbrev pub today : Standing → Option Date
+today s = cond (s.state == on_a_day) (Some record { number = s.day }) None
 
--- the business day on which a register is open, or 0
-abbrev pub today : Standing → ℕ
-today s = cond (s.state == on_a_day) s.day 0
+-- the last business day on which it was opened, if there was one
+abbrev pub last_day : Standing → Option Date
+last_day s = cond (s.day == 0) None (Some record { number = s.day })

@@ -1,23 +1,31 @@
 // Walks past the end of the calendar of 2025: the year's last two business days, and two openings on no day.
 #![tactic(auto)]
 
-ghost use Rattle.std.specs.Prelude.{◌≡◌};
+ghost use Rattle.std.specs.Prelude.{◌≡◌, Ok};
+ghost use Rattle.rulebook.specs.States.{date_of};
 ghost use Rattle.rulebook.specs.declared.Call.TheVariants.{Opening, Closing};
 ghost use Rattle.rulebook.specs.declared.Answer.TheVariants.{Opened};
-ghost use Rattle.register.specs.Shows.{view, next};
+ghost use Rattle.register.specs.Shows.{next};
 
 use calendar::Date;
 use desk::year::year_2025;
 use register::states::Shut;
 
 // One day, opened and closed: the date that opening answered.
-fn one_day(shut: Shut) -> (Date, Shut)
-    ensures date { Opened result.0 ≡ (next (view shut.register) Opening).1 }
-    ensures after { view result.1.register ≡ (next (next (view shut.register) Opening).0 Closing).0 }
+fn one_day(shut: Shut) -> (Option<Date>, Shut)
+    ensures date { Ok (Opened result.0) ≡ (next shut.register Opening).1 }
+    ensures after { result.1.register ≡ (next (next shut.register Opening).0 Closing).0 }
 {
     let (today, open) = shut.open();
-    let (_, _, shut) = open.close();
+    let (_, shut) = open.close();
     (today, shut)
+}
+
+// The number of a day, 0 for none.
+fn number(day: Option<Date>) -> u32
+    ensures { result ≡ date_of day }
+{
+    day.map_or(0, |day| day.number)
 }
 
 // So many days, one after the other.
@@ -37,11 +45,9 @@ fn main(rt: HostRuntime) -> anyhow::Result<()> {
     let (third, shut) = one_day(shut);
     let (fourth, shut) = one_day(shut);
     let last = shut.finish();
-    for date in [first, second, third, fourth] {
-        let number = date.number;
-        println!(rt; "opened on {number}")?;
+    for today in [first, second, third, fourth] {
+        println!(rt; "opened on {}", number(today))?;
     }
-    let number = last.number;
-    println!(rt; "last business day {number}")?;
+    println!(rt; "last business day {}", number(last))?;
     Ok(())
 }

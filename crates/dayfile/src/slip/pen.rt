@@ -1,14 +1,13 @@
 // Writing on a slip.
 ghost use Rattle.std.specs.Prelude.{◌≡◌, ◌+◌, ◌<◌, ◌≤◌, [], ◌∷◌, ◌++◌, length, decimal};
-ghost use Rattle.dayfile.specs.Replies.{written};
+ghost use Rattle.dayfile.specs.Replies.{padded};
 
 use crate::slip::Slip;
 
 impl Slip {
     // A slip on which nothing is written.
     pub(crate) fn new() -> Slip
-        ensures text { written result ≡ [] }
-        ensures size { result.size ≡ 0 }
+        ensures { result ≡ [] }
     {
         Slip {
             bytes: [0; 120],
@@ -18,9 +17,8 @@ impl Slip {
 
     // Writes one byte.
     pub(crate) fn put(&mut self, byte: u8)
-        requires { self.old.size < 120 }
-        ensures text { written self.new ≡ written self.old ++ byte ∷ [] }
-        ensures size { self.new.size ≡ self.old.size + 1 }
+        requires { length self.old < 120 }
+        ensures { self.new ≡ self.old ++ byte ∷ [] }
     {
         self.bytes[self.size] = byte;
         self.size += 1;
@@ -28,9 +26,8 @@ impl Slip {
 
     // Writes a number in base ten.
     pub(crate) fn put_number(&mut self, number: u64)
-        requires { self.old.size + length (decimal number) ≤ 120 }
-        ensures text { written self.new ≡ written self.old ++ decimal number }
-        ensures size { self.new.size ≡ self.old.size + length (decimal number) }
+        requires { length self.old + length (decimal number) ≤ 120 }
+        ensures { self.new ≡ self.old ++ decimal number }
     {
         if number < 10 {
             self.put(b'0' + number as u8);
@@ -42,21 +39,31 @@ impl Slip {
 
     // Writes a comma, and a number behind it.
     pub(crate) fn put_value(&mut self, number: u64)
-        requires { self.old.size ≤ 99 }
-        ensures text { written self.new ≡ written self.old ++ 44 ∷ decimal number }
-        ensures size { self.new.size ≤ self.old.size + 21 }
+        requires { length self.old ≤ 99 }
+        ensures text { self.new ≡ self.old ++ 44 ∷ decimal number }
+        ensures size { length self.new ≤ length self.old + 21 }
     {
         self.put(b',');
         self.put_number(number);
     }
 
-    // Writes a comma, and a letter behind it.
+    // Writes a comma, and a letter behind it. It is no case of `put_value`: the room of a letter is always two bytes.
     pub(crate) fn put_letter(&mut self, letter: u8)
-        requires { self.old.size ≤ 99 }
-        ensures text { written self.new ≡ written self.old ++ 44 ∷ letter ∷ [] }
-        ensures size { self.new.size ≡ self.old.size + 2 }
+        requires { length self.old ≤ 99 }
+        ensures { self.new ≡ self.old ++ 44 ∷ letter ∷ [] }
     {
         self.put(b',');
         self.put(letter);
+    }
+
+    // Hands out the bytes, zeros behind what is written, and how many are written.
+    pub(crate) fn hand_out(self, out: &mut [u8; 120]) -> usize
+        ensures bytes { out.new ≡ padded self }
+        ensures size { result ≡ length self }
+        ensures room { result ≤ 120 }
+    {
+        let Slip { bytes, size } = self;
+        *out = bytes;
+        size
     }
 }

@@ -1,7 +1,6 @@
 // How a register stands.
-ghost use Rattle.std.specs.Prelude.{◌≡◌};
+ghost use Rattle.std.specs.Prelude.{◌≡◌, ◌≤◌};
 ghost use Rattle.rulebook.specs.States.{today};
-ghost use Rattle.register.specs.Shows.{view};
 
 use super::{ON_A_DAY, Register};
 use calendar::Date;
@@ -9,19 +8,20 @@ use calendar::Date;
 impl Register {
     // The state's number: 0 shut, 1 open on a business day, 2 open on no day.
     pub fn state(&self) -> u8
-        ensures { result ≡ (view self.now).standing.state }
+        ensures shown { result ≡ self.now.standing.state }
+        ensures one_of_three { result ≤ 2 }
     {
         self.state
     }
 
-    // The business day on which the register is open, or 0.
-    pub fn today(&self) -> Date
-        ensures { result.number ≡ today (view self.now).standing }
+    // The business day on which the register is open, if it is open on one.
+    pub fn today(&self) -> Option<Date>
+        ensures { result ≡ today self.now.standing }
     {
         if self.state == ON_A_DAY {
             self.day
         } else {
-            Date { number: 0 }
+            None
         }
     }
 }

@@ -1,39 +1,38 @@
 // From shut to open and back.
-ghost use Rattle.std.specs.Prelude.{◌≡◌};
+ghost use Rattle.std.specs.Prelude.{◌≡◌, Ok};
 ghost use Rattle.calendar.specs.Calendars.{days_of};
-ghost use Rattle.rulebook.specs.States.{new_standing, today};
+ghost use Rattle.rulebook.specs.States.{new_standing, today, last_day};
 ghost use Rattle.rulebook.specs.declared.Call.TheVariants.{Opening, Closing};
 ghost use Rattle.rulebook.specs.declared.Answer.TheVariants.{Opened, Closed};
-ghost use Rattle.register.specs.Shows.{view, Serves};
+ghost use Rattle.register.specs.Shows.{Serves};
 
 use super::{Open, Shut};
 use crate::register::Register;
 use calendar::{Calendar, Date};
+use rulebook::Ending;
 
 impl Shut {
     // A new register is shut.
     pub fn new(calendar: Calendar) -> Shut
-        ensures { view result.register ≡ record { days = days_of calendar; standing = new_standing } }
+        ensures { result.register ≡ record { days = days_of calendar; standing = new_standing } }
     {
         Shut {
             register: Register::new(calendar),
         }
     }
 
-    // Opens it, never refused: today, or 0 where no business day is left, and the open register.
-    pub fn open(self) -> (Date, Open)
-        ensures { Serves self.register result.1.register Opening (Opened result.0) }
+    // Opens it, never refused: today, if a business day is left, and the open register.
+    pub fn open(self) -> (Option<Date>, Open)
+        ensures { Serves self.register result.1.register Opening (Ok (Opened result.0)) }
     {
         let Shut { mut register } = self;
-        match register.open() {
-            Ok(today) => (today, Open { register }),
-            Err(_) => unreachable(),
-        }
+        let today = register.open().unwrap();
+        (today, Open { register })
     }
 
-    // Ends it, and answers the last business day on which it was open.
-    pub fn finish(self) -> Date
-        ensures { result.number ≡ (view self.register).standing.day }
+    // Ends it, and answers the last business day on which it was opened, if there was one.
+    pub fn finish(self) -> Option<Date>
+        ensures { result ≡ last_day self.register.standing }
     {
         let Shut { register } = self;
         register.finish()
@@ -41,21 +40,19 @@ impl Shut {
 }
 
 impl Open {
-    // The business day on which it is open, or 0.
-    pub fn today(&self) -> Date
-        ensures { result.number ≡ today (view self.now.register).standing }
+    // The business day on which it is open, if it is open on one.
+    pub fn today(&self) -> Option<Date>
+        ensures { result ≡ today self.now.register.standing }
     {
         self.register.today()
     }
 
     // Closes it, never refused: the legs settled, the instructions refused, and the shut register.
-    pub fn close(self) -> (u64, u64, Shut)
-        ensures { Serves self.register result.2.register Closing (Closed result.0 result.1) }
+    pub fn close(self) -> (Ending, Shut)
+        ensures { Serves self.register result.1.register Closing (Ok (Closed result.0)) }
     {
         let Open { mut register } = self;
-        match register.close() {
-            Ok((legs, refused)) => (legs, refused, Shut { register }),
-            Err(_) => unreachable(),
-        }
+        let ending = register.close().unwrap();
+        (ending, Shut { register })
     }
 }

@@ -1,30 +1,25 @@
-use Rattle.std.proofs.Common.{◌≡◌, ◌<◌, [], ◌∷◌, ◌++◌, length, decimal, ap, ◌∙◌, arith}
+use Rattle.std.proofs.Common.{ℕ, ◌^◌, ◌<◌, ◌≤◌, [], ◌∷◌, length, length-append, decimal, ap, arith}
 use Rattle.std.proofs.lemmas.Fmt.{length-decimal-le}
-use Rattle.rulebook.specs.Answers.{answer_letter, answer_values}
-use Rattle.dayfile.specs.Replies.{written, behind, padded, answer_line}
-use Rattle.dayfile.proofs.Slips.{slip_bytes, slip_size}
 use Rattle.dayfile.proofs.answers.write_answer.Goals as goal
 
+-- a line's number has at most 20 digits
+short : (n : ℕ) → n < 2 ^ 64 → length (decimal n) ≤ 20
+short n h = length-decimal-le 20 n (omega arith) (omega arith) (omega arith)
+
 pub put_number-requires : goal.put_number-requires
-put_number-requires c = omega (arith, length-decimal-le 20 c.args.number (omega arith) (omega arith) (omega arith))
+put_number-requires c = omega (arith, short c.args.number (omega arith), ap length c.new-slip.ensures)
 
 pub put_letter-requires : goal.put_letter-requires
-put_letter-requires c = omega (arith, length-decimal-le 20 c.args.number (omega arith) (omega arith) (omega arith))
+put_letter-requires c =
+    let n = c.args.number in
+    omega (arith, short n (omega arith), ap length c.new-slip.ensures, ap length c.put_number.ensures, length-append c.new-slip.result (decimal n))
 
-pub put_values-requires : goal.put_values-requires
-put_values-requires c = omega (arith, length-decimal-le 20 c.args.number (omega arith) (omega arith) (omega arith))
+pub put_answer-requires : goal.put_answer-requires
+put_answer-requires c =
+    let n = c.args.number in
+    omega (arith, short n (omega arith), ap length c.new-slip.ensures, ap length c.put_number.ensures, length-append c.new-slip.result (decimal n), ap length c.put_letter.ensures, length-append c.put_number.new.self (44 ∷ c.letter_of.result ∷ []))
 
 pub put-requires : goal.put-requires
-put-requires c = omega (arith, length-decimal-le 20 c.args.number (omega arith) (omega arith) (omega arith))
-
-pub returns : goal.returns
-returns c =
+put-requires c =
     let n = c.args.number in
-    let a = c.args.answer in
-    let s = c.put.new.self in
-    let numbered : written c.put_number.new.self ≡ decimal n = c.put_number.ensures.text ∙ ap (λ u. u ++ decimal n) c.new-slip.ensures.text in
-    let lettered : written c.put_letter.new.self ≡ decimal n ++ 44 ∷ answer_letter a ∷ [] = c.put_letter.ensures.text ∙ ap (λ k. written c.put_number.new.self ++ 44 ∷ k ∷ []) c.letter_of.ensures ∙ ap (λ u. u ++ 44 ∷ answer_letter a ∷ []) numbered in
-    let valued : written c.put_values.new.slip ≡ behind (decimal n ++ 44 ∷ answer_letter a ∷ []) (answer_values a) = c.put_values.ensures.text ∙ ap (λ u. behind u (answer_values a)) lettered in
-    let whole : written s ≡ answer_line n a = c.put.ensures.text ∙ ap (λ u. u ++ 10 ∷ []) valued in
-    let room : s.size < 120 = omega (arith, length-decimal-le 20 n (omega arith) (omega arith) (omega arith)) in
-    record { bytes = slip_bytes s room ∙ ap padded whole; size = slip_size s room ∙ ap length whole; room = omega (arith, room) }
+    omega (arith, c.put_answer.ensures.size, short n (omega arith), ap length c.new-slip.ensures, ap length c.put_number.ensures, length-append c.new-slip.result (decimal n), ap length c.put_letter.ensures, length-append c.put_number.new.self (44 ∷ c.letter_of.result ∷ []))

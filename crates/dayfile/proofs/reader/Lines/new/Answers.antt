@@ -1,10 +1,15 @@
-use Rattle.std.proofs.Common.{rules}
 use Rattle.dayfile.proofs.Cuts.{same_lines}
 use Rattle.dayfile.proofs.Parted.{lines_parted}
 use Rattle.dayfile.proofs.reader.Lines.new.Goals as goal
 
-pub returns-then-file-gt65536 : goal.returns-then-file-gt65536
-returns-then-file-gt65536 c = record { lines = search rules; parted = lines_parted; ends = same_lines }
+pub returns-then-file-gt65536-clause-parted : goal.returns-then-file-gt65536-clause-parted
+returns-then-file-gt65536-clause-parted c = lines_parted
 
-pub returns : goal.returns
-returns c = record { lines = search rules; parted = lines_parted; ends = same_lines }
+pub returns-then-file-gt65536-clause-ends : goal.returns-then-file-gt65536-clause-ends
+returns-then-file-gt65536-clause-ends c = same_lines
+
+pub returns-clause-parted : goal.returns-clause-parted
+returns-clause-parted c = lines_parted
+
+pub returns-clause-ends : goal.returns-clause-ends
+returns-clause-ends c = same_lines
