@@ -5,6 +5,9 @@ use Rattle.std.proofs.lemmas.Bool.{and_from, le-leb, leb-true, cond_both}
 use Rattle.std.proofs.lemmas.Bool.Decides.{nat_tests}
 use Rattle.calendar.specs.Days.{lengths, month_length, month_number, is_date, is_business, first_from, RisingAbove, AllDates, LawfulDays}
 use Rattle.calendar.specs.Masks.{is_set, number_of, length_of, days_from, days_in, months_from, business_days}
+use Rattle.std.specs.Prelude.{vec_items}
+use Rattle.calendar.specs.declared.years.Calendar.{Calendar}
+use Rattle.calendar.specs.Calendars.{days_of}
 
 getD_short : (xs : List ℕ) → AllByRecursion (λ x. x ≤ 31) xs → (k : ℕ) → get_or xs k 0 ≤ 31
 getD_short [] a k = omega arith
@@ -108,3 +111,7 @@ business_first d bs r = go (first_from d bs) refl
 -- the same for the business days of masks
 pub calendar_first : (d first : ℕ) (masks : List ℕ) → is_business d (business_days first masks) ≡ is_first d (first_from d (business_days first masks))
 calendar_first d first masks = sym (business_first d (business_days first masks) (lawful first masks).0)
+
+-- the business days of a calendar rise
+pub days_rise : (c : Calendar) → RisingAbove 0 (days_of c)
+days_rise c = (lawful c.months.first (vec_items c.months.masks)).0

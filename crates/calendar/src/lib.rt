@@ -37,7 +37,7 @@ impl Date {
     }
 }
 
-// The lengths of the twelve months, but for a February of 29 days.
+// The lengths of the twelve months, but for a February of 29 days: a table by a rule of the project.
 const LENGTHS: [u32; 12] = [31, 28, 31, 30, 31, 30, 31, 31, 30, 31, 30, 31];
 
 // The length of a month: February has 29 days in years divisible by 4.

@@ -1,10 +1,10 @@
 -- Where bytes are cut into parts.
-use Rattle.std.proofs.Common.{◌≡◌, ℕ, suc, ◌+◌, ◌<◌, ◌≤◌, Bool, true, false, cond, not, eqb, ltb, List, [], ◌∷◌, length, Some, None, Option, unwrap_or, take, drop, sym, refl, ap, ◌∙◌, subst, ⊎_elim, arith}
+use Rattle.std.proofs.Common.{◌≡◌, ℕ, suc, ◌+◌, ◌-◌, ◌<◌, ◌≤◌, Bool, true, false, cond, not, eqb, ltb, List, [], ◌∷◌, length, Some, None, Option, unwrap_or, take, drop, sym, refl, ap, ◌∙◌, subst, ⊎_elim, arith}
 use Rattle.std.proofs.str.Laws.{order}
 use Rattle.std.specs.Borrow.{Bor}
-use Rattle.std.specs.List.{position, position_or_len, PartBy}
+use Rattle.std.specs.List.{count_by, position, position_or_len, PartBy}
 use Rattle.std.proofs.lemmas.List.{drop_all, take_all, take_rest}
-use Rattle.std.proofs.lemmas.List.Recursion.{is_position_or_len}
+use Rattle.std.proofs.lemmas.List.Recursion.{is_count_by, is_position_or_len}
 use Rattle.std.proofs.lemmas.List.Sums.{prefix_len-le-length}
 use Rattle.std.proofs.lemmas.Bool.{cond_both, ltb-false, ne_eqb}
 use Rattle.dayfile.specs.Text.{prepend, parts, parts_left, lines, fields, before, SameLines}
@@ -87,7 +87,7 @@ fields_cut bs end behind e p =
     subst (λ n. fields bs ≡ take n bs ∷ parts_left behind) (sym e) (first_cut bs behind (subst (λ n. PartBy (λ x. x.now) bs (n + 1) (length bs) behind) e p))
 
 -- some bytes have at most one field more than bytes
-prepend_length : (b : ℕ) (ps : List (List ℕ)) → length (prepend b ps) ≤ length ps + 1
+pub prepend_length : (b : ℕ) (ps : List (List ℕ)) → length (prepend b ps) ≤ length ps + 1
 prepend_length b [] = omega arith
 prepend_length b (p ∷ ps) = omega arith
 
@@ -95,6 +95,35 @@ pub fields_few : (bs : List ℕ) → length (fields bs) ≤ length bs + 1
 fields_few [] = omega arith
 fields_few (b ∷ bs) =
     cond_both (eqb b 44) ([] ∷ fields bs) (prepend b (fields bs)) (λ ps. length ps ≤ length (b ∷ bs) + 1) (λ _. omega (arith, fields_few bs)) (λ _. omega (arith, fields_few bs, prepend_length b (fields bs)))
+
+-- some bytes have a field more than commas
+fields_more : (b : ℕ) (bs : List ℕ) → length (fields bs) ≡ 1 + (length (fields bs) - 1)
+    → length (fields (b ∷ bs)) ≡ cond (eqb b 44) (2 + (length (fields bs) - 1)) (1 + (length (fields bs) - 1))
+fields_more b bs h =
+    elim (eqb b 44) as (λ t. length (cond t ([] ∷ fields bs) (prepend b (fields bs))) ≡ cond t (2 + (length (fields bs) - 1)) (1 + (length (fields bs) - 1)))
+    [ true ↦ omega (arith, h) | false ↦ go (fields bs) h ]
+  where
+    go : (ps : List (List ℕ)) → length ps ≡ 1 + (length ps - 1) → length (prepend b ps) ≡ 1 + (length ps - 1)
+    go [] e = absurd (omega (arith, e))
+    go (p ∷ ps) e = e
+
+fields_some : (bs : List ℕ) → length (fields bs) ≡ 1 + (length (fields bs) - 1)
+fields_some [] = refl
+fields_some (b ∷ bs) =
+    let n = length (fields bs) - 1 in
+    let h : length (fields (b ∷ bs)) ≡ cond (eqb b 44) (2 + n) (1 + n) = fields_more b bs (fields_some bs) in
+    cond_both (eqb b 44) (2 + n) (1 + n) (λ m. length (fields (b ∷ bs)) ≡ m → length (fields (b ∷ bs)) ≡ 1 + (length (fields (b ∷ bs)) - 1)) (λ _ e. omega (arith, e)) (λ _ e. omega (arith, e)) h
+
+pub fields_count : (bs : List ℕ) → length (fields bs) ≡ 1 + count_by (λ b. eqb b 44) bs
+fields_count bs =
+    fields_some bs
+    ∙ ap (λ n. 1 + n) (is_count_by (λ cs. length (fields cs) - 1) (λ b. eqb b 44) refl (λ c cs. more c cs) bs)
+  where
+    more : (c : ℕ) (cs : List ℕ) → length (fields (c ∷ cs)) - 1 ≡ cond (eqb c 44) (1 + (length (fields cs) - 1)) (length (fields cs) - 1)
+    more c cs =
+        let n = length (fields cs) - 1 in
+        cond_both (eqb c 44) (2 + n) (1 + n) (λ m. length (fields (c ∷ cs)) ≡ m → length (fields (c ∷ cs)) - 1 ≡ m - 1) (λ _ e. omega (arith, e)) (λ _ e. omega (arith, e)) (fields_more c cs (fields_some cs))
+        ∙ elim (eqb c 44) as (λ t. cond t (2 + n) (1 + n) - 1 ≡ cond t (1 + n) n) [ true ↦ omega arith | false ↦ omega arith ]
 
 -- byte 10 behind a last byte that is not 10 ends the same line
 pub same_lines : SameLines

@@ -31,11 +31,7 @@ abbrev pub before : ℕ → List ℕ → List ℕ
 before mark [] = []
 before mark (b ∷ bs) = cond (b == mark) [] (b ∷ before mark bs)
 
--- the first of a list, and what stands behind it
-abbrev pub first_of : {X : Type 0} → List X → Option X
-first_of [] = None
-first_of (x ∷ xs) = Some x
-
+-- what stands behind the first of a list
 abbrev pub rest_of : {X : Type 0} → List X → List X
 rest_of [] = []
 rest_of (x ∷ xs) = xs

@@ -9,6 +9,7 @@ use rulebook::{Answer, Fate, Fault};
 
 // Writes the answer to the line with that number, byte 10 and zeros; the length with byte 10 is answered. The caller's
 // 120 bytes take it: no answer line needs heap.
+#[tactic(auto, using(crate::proofs::Slips::short))]
 pub fn write_answer(number: u64, answer: Result<Answer, Fault>, out: &mut [u8; 120]) -> usize
     ensures bytes { out.new ≡ padded (answer_line number answer) }
     ensures size { result ≡ length (answer_line number answer) }
@@ -16,13 +17,14 @@ pub fn write_answer(number: u64, answer: Result<Answer, Fault>, out: &mut [u8; 1
 {
     let mut slip = Slip::new();
     slip.put_number(number);
-    slip.put_letter(letter_of(answer));
+    slip.put(b',');
+    slip.put(letter_of(answer));
     put_answer(&mut slip, answer);
     slip.put(b'\n');
     slip.hand_out(out)
 }
 
-// A for an acceptance, N for a refusal.
+// A for an acceptance, N for a refusal. This letter and those of fates are of this format alone.
 fn letter_of(answer: Result<Answer, Fault>) -> u8
     ensures { result ≡ reply_letter answer }
 {
@@ -42,6 +44,7 @@ fn put_answer(slip: &mut Slip, answer: Result<Answer, Fault>)
         Ok(answer) => put_values(slip, answer),
         Err(fault) => {
             slip.put_value(u64::from(fault.refusal.number()));
+            // there is no `From` between a size and a `u64`
             slip.put_value(fault.field.map_or(0, |number| number as u64));
         }
     }
@@ -55,20 +58,22 @@ fn put_values(slip: &mut Slip, answer: Answer)
 {
     match answer {
         Answer::Opened { today } => slip.put_value(today.map_or(0, |day| u64::from(day.number))),
+        // nor here
         Answer::Registered { issue } => slip.put_value(issue as u64),
-        Answer::Placed { outstanding } => slip.put_value(outstanding),
-        Answer::Instructed { serial } => slip.put_value(serial),
-        Answer::Cancelled { serial } => slip.put_value(serial),
-        Answer::Blocked { blocking } => slip.put_value(blocking),
-        Answer::Released { blocking } => slip.put_value(blocking),
-        Answer::RoundMade { legs } => slip.put_value(legs),
+        Answer::Placed { outstanding: value }
+        | Answer::Instructed { serial: value }
+        | Answer::Cancelled { serial: value }
+        | Answer::Blocked { blocking: value }
+        | Answer::Released { blocking: value }
+        | Answer::RoundMade { legs: value }
+        | Answer::Redeemed { amount: value } => slip.put_value(value),
         Answer::Closed(ending) => {
             slip.put_value(ending.legs);
             slip.put_value(ending.refused);
         }
-        Answer::Redeemed { amount } => slip.put_value(amount),
         Answer::Status { fate, cause } => {
-            slip.put_letter(fate_letter(fate));
+            slip.put(b',');
+            slip.put(fate_letter(fate));
             slip.put_value(behind_fate(fate, cause));
         }
         Answer::Holds(held) => {

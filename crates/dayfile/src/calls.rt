@@ -13,6 +13,7 @@ use refusals::Refusal;
 use rulebook::{Call, Fault, Order, Placement, Pledge};
 
 // The call that a line makes. Every call that fits a line is read back from its spelling.
+#[tactic(auto, using(crate::proofs::RoundTrip::read_spelled))]
 pub fn read_call(line: &[u8]) -> Result<Call, Fault>
     ensures call { result ≡ read_call line.now }
     ensures back { ReadSpelled }

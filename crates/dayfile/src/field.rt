@@ -5,7 +5,7 @@ ghost use Rattle.dayfile.specs.Looks.{look_of, letter_of};
 ghost use Rattle.dayfile.specs.Readers.{look};
 
 // A field as a part of its line: no bytes, eight digits, other digits, or anything else.
-#[derive(Clone, Copy)]
+#[derive(Clone, Copy, Debug, PartialEq, Eq)]
 pub enum Field<'a> {
     Blank(&'a [u8]),
     Date(&'a [u8]),

@@ -7,8 +7,8 @@ use std::marker::Model;
 
 mod parts;
 
-// What of a line has still to be read, if anything, and the number of fields before it. Contracts see the fields that
-// are left, each by its number and what it looks like.
+// What of a line has still to be read, if anything, and the number of fields before it: a field is handed out with its
+// number, by a rule of the project. Contracts see the fields that are left, each by its number and what it looks like.
 #[derive(Drop)]
 pub struct Fields<'a> {
     rest: Option<&'a [u8]>,

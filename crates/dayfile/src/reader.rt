@@ -23,6 +23,7 @@ impl<'a> Model for Lines<'a> {
 
 impl<'a> Lines<'a> {
     // A reader before the first line; a file of more than 65,536 bytes is refused.
+    #[tactic(auto, using(crate::proofs::Parted::lines_parted, crate::proofs::Cuts::same_lines))]
     pub fn new(file: &'a [u8]) -> Result<Lines<'a>, Refusal>
         ensures lines { result ≡ file_lines file.now }
         ensures parted { LinesParted }

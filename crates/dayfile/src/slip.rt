@@ -6,7 +6,8 @@ use std::marker::Model;
 mod pen;
 
 // The first `size` bytes are written, and zeros stand behind them. Contracts see what is written. The bytes stand in an
-// array with their number beside: an answer line is put into 120 bytes, without heap.
+// array with their number beside: an answer line needs no heap, and the kit's vector of fixed capacity would be one more
+// library to trust.
 #[derive(Drop)]
 pub(crate) struct Slip {
     bytes: [u8; 120],

@@ -111,7 +111,7 @@ fn is_eight(bytes: &[u8]) -> bool
     bytes.len() == 8 && all_digits(bytes)
 }
 
-// The number that digits write.
+// The number that digits write. A `fold` was tried: it cannot tell what bounds the sum at a step.
 fn value(bytes: &[u8]) -> u64
     requires few { length bytes.now ≤ 16 }
     requires digits { all_ascii_digits bytes.now ≡ true }

@@ -22,7 +22,9 @@ fn takes(letter: char, state: u8) -> bool
     }
 }
 
-// Whether a state takes a call, by its letter; that is what the rules say of the three states.
+// Whether a state takes a call, by its letter; that is what the rules say of the three states. The state is a plain
+// number by the same rule.
+#[tactic(auto, using(crate::proofs::Suited::letters_suit))]
 pub fn suits(call: Call, state: u8) -> bool
     ensures letters { result ≡ takes (call_letter call) state }
     ensures rules { state ≤ 2 → result ≡ suits state call }

@@ -10,7 +10,8 @@ pub struct Agents {
     ghost few: { vec_len rows ≤ 32 },
 }
 
-// Participants who pay and are paid through agents, the participants of the money side below.
+// Participants who pay and are paid through agents, the participants of the money side below. Its agents stand in an
+// inner table by a rule of the project; it has no model for the ledger's reason.
 pub struct AgentTable<M: Money> {
     below: M,
     agents: Agents,

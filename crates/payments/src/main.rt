@@ -128,13 +128,12 @@ fn show_ledger(rt: &HostRuntime, accounts: usize, each: u64) -> io::Result<()> {
 fn show_table(rt: &HostRuntime, rows: usize, agent: usize) -> io::Result<()> {
     let names = vec![in rt.alloc(); agent; rows]?;
     let ledger = Ledger::new(vec![in rt.alloc(); 0; 2]?).unwrap();
-    let stood = match AgentTable::new(ledger, names) {
-        Ok(table) => {
+    let stood = AgentTable::new(ledger, names)
+        .map(|table| {
             let _ledger = table.into_below();
-            Ok("a table")
-        }
-        Err((refusal, _ledger)) => Err(refusal),
-    };
+            "a table"
+        })
+        .map_err(|(refusal, _ledger)| refusal);
     show(rt, format_args!("{rows} rows that name {agent}"), stood)
 }
 

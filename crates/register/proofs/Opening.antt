@@ -1,13 +1,12 @@
 -- The business day that opening comes to.
 use Rattle.std.proofs.Common.{◌≡◌, ℕ, ◌≤◌, leb, List, [], ◌∷◌, Some, refl, arith}
-use Rattle.std.specs.Prelude.{vec_items}
 use Rattle.std.proofs.lemmas.Bool.{cond_both}
 use Rattle.std.proofs.lemmas.Bool.Decides.{nat_tests}
 use Rattle.calendar.specs.declared.Date.{Date}
 use Rattle.calendar.specs.declared.years.Calendar.{Calendar}
 use Rattle.calendar.specs.Days.{RisingAbove, first_from, next_after}
 use Rattle.calendar.specs.Calendars.{days_of, dated}
-use Rattle.calendar.proofs.Laws.{lawful}
+use Rattle.calendar.proofs.Laws.{days_rise}
 
 -- a day that is found is not before the one from which it was looked for
 pub found_later : (n : ℕ) (bs : List ℕ) (d : Date) → dated (first_from n bs) ≡ Some d → n ≤ d.number
@@ -21,7 +20,7 @@ found_later n (b ∷ bs) d =
 
 -- the calendar's first business day is the next after 0
 pub first_day : (k : Calendar) → first_from 0 (days_of k) ≡ next_after 0 (days_of k)
-first_day k = go (days_of k) (lawful k.months.first (vec_items k.months.masks)).0
+first_day k = go (days_of k) (days_rise k)
   where
     go : (bs : List ℕ) → RisingAbove 0 bs → first_from 0 bs ≡ first_from 1 bs
     go [] r = refl

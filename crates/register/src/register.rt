@@ -8,7 +8,7 @@ ghost use Rattle.register.specs.Shows.{View};
 use calendar::{Calendar, Date};
 use std::marker::Model;
 
-// The numbers of the states.
+// The numbers of the states, plain ones by a rule of the project.
 pub const SHUT: u8 = 0;
 
 pub const ON_A_DAY: u8 = 1;

@@ -1,4 +1,5 @@
-// A register that is shut, and one that is open, as types: each is moved into the other, and neither may be let go.
+// A register that is shut, and one that is open, as two types by a rule of the project: each is moved into the other, and
+// neither may be let go.
 ghost use Rattle.std.specs.Prelude.{◌≡◌, ◌<◌};
 
 use crate::register::Register;

@@ -2,7 +2,6 @@
 #![tactic(auto)]
 
 ghost use Rattle.std.specs.Prelude.{◌≡◌, Ok};
-ghost use Rattle.rulebook.specs.States.{date_of};
 ghost use Rattle.rulebook.specs.declared.Call.TheVariants.{Opening, Closing};
 ghost use Rattle.rulebook.specs.declared.Answer.TheVariants.{Opened};
 ghost use Rattle.register.specs.Shows.{next};
@@ -19,13 +18,6 @@ fn one_day(shut: Shut) -> (Option<Date>, Shut)
     let (today, open) = shut.open();
     let (_, shut) = open.close();
     (today, shut)
-}
-
-// The number of a day, 0 for none.
-fn number(day: Option<Date>) -> u32
-    ensures { result ≡ date_of day }
-{
-    day.map_or(0, |day| day.number)
 }
 
 // So many days, one after the other.
@@ -46,8 +38,8 @@ fn main(rt: HostRuntime) -> anyhow::Result<()> {
     let (fourth, shut) = one_day(shut);
     let last = shut.finish();
     for today in [first, second, third, fourth] {
-        println!(rt; "opened on {}", number(today))?;
+        println!(rt; "opened on {}", today.map_or(0, |day| day.number))?;
     }
-    println!(rt; "last business day {}", number(last))?;
+    println!(rt; "last business day {}", last.map_or(0, |day| day.number))?;
     Ok(())
 }

@@ -11,7 +11,8 @@ use refusals::Refusal;
 
 impl Calendar {
     // A calendar of some years from the masks of their months. It is refused exactly if it breaks the limits, if a mask
-    // sets a bit past its month's end, or if no bit is set.
+    // sets a bit past its month's end, or if no bit is set. The years stand beside the masks, as the rules give both, and
+    // refuse a calendar where they differ.
     #[tactic(auto, using(crate::proofs::Marks::made))]
     pub fn new(first_year: u32, years: usize, masks: Vec<u32>) -> Result<Calendar, Refusal>
         ensures limits { is_ok result ≡ fits first_year years masks.items }

@@ -7,7 +7,7 @@ use super::MonthMasks;
 use crate::month_length;
 
 // A month of a calendar: its number YYYYMM00, its length, and the mask of its business days.
-#[derive(Clone, Copy)]
+#[derive(Clone, Copy, Debug, PartialEq, Eq)]
 struct Month {
     number: u32,
     length: u32,

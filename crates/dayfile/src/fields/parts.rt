@@ -1,5 +1,5 @@
 // The fields of a line, one after the other.
-ghost use Rattle.std.specs.Prelude.{◌≡◌, length};
+ghost use Rattle.std.specs.Prelude.{◌≡◌, length, count_by, ◌==◌};
 ghost use Rattle.std.specs.Iterator.{YieldsFirstBy, item_count};
 ghost use Rattle.dayfile.specs.Text.{FieldsParted};
 ghost use Rattle.dayfile.specs.Readers.{shown, line_fields};
@@ -11,6 +11,7 @@ use refusals::Refusal;
 
 impl<'a> Fields<'a> {
     // A reader before the first field; an empty line, and one of more than 120 bytes, are refused.
+    #[tactic(auto, using(crate::proofs::Parted::fields_parted, crate::proofs::Cuts::fields_few))]
     pub fn new(line: &'a [u8]) -> Result<Fields<'a>, Refusal>
         ensures fields { result ≡ line_fields line.now }
         ensures parted { FieldsParted }
@@ -28,12 +29,18 @@ impl<'a> Fields<'a> {
     pub(crate) fn left(&self) -> usize
         ensures { result ≡ length self.now }
     {
-        let same = Fields {
-            rest: self.rest,
-            number: self.number,
-        };
-        same.count()
+        match self.rest {
+            Some(rest) => commas(rest) + 1,
+            None => 0,
+        }
     }
+}
+
+// How many commas stand among bytes.
+fn commas(bytes: &[u8]) -> usize
+    ensures { result ≡ count_by (λ b. b == 44) bytes.now }
+{
+    bytes.iter().filter(|b| **b == b',').count()
 }
 
 // The fields that are left, each with its number.

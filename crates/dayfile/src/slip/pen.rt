@@ -24,7 +24,8 @@ impl Slip {
         self.size += 1;
     }
 
-    // Writes a number in base ten.
+    // Writes a number in base ten, digit by digit: the library's formatting is not promised to succeed, and the kit's
+    // writer of numbers would be one more library to trust.
     pub(crate) fn put_number(&mut self, number: u64)
         requires { length self.old + length (decimal number) ≤ 120 }
         ensures { self.new ≡ self.old ++ decimal number }
@@ -45,15 +46,6 @@ impl Slip {
     {
         self.put(b',');
         self.put_number(number);
-    }
-
-    // Writes a comma, and a letter behind it. It is no case of `put_value`: the room of a letter is always two bytes.
-    pub(crate) fn put_letter(&mut self, letter: u8)
-        requires { length self.old ≤ 99 }
-        ensures { self.new ≡ self.old ++ 44 ∷ letter ∷ [] }
-    {
-        self.put(b',');
-        self.put(letter);
     }
 
     // Hands out the bytes, zeros behind what is written, and how many are written.

@@ -73,7 +73,7 @@ impl<M: Money> Money for AgentTable<M> {
         self.below.pay(Payment {
             payer,
             payee,
-            amount: order.amount,
+            ..order
         })
     }
 }

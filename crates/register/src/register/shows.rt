@@ -6,7 +6,8 @@ use super::{ON_A_DAY, Register};
 use calendar::Date;
 
 impl Register {
-    // The state's number: 0 shut, 1 open on a business day, 2 open on no day.
+    // The state's number: 0 shut, 1 open on a business day, 2 open on no day. By a rule of the project the desk asks for
+    // this, and not for an enum.
     pub fn state(&self) -> u8
         ensures shown { result ≡ self.now.standing.state }
         ensures one_of_three { result ≤ 2 }

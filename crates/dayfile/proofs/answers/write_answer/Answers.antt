@@ -1,25 +1,22 @@
-use Rattle.std.proofs.Common.{ℕ, ◌^◌, ◌<◌, ◌≤◌, [], ◌∷◌, length, length-append, decimal, ap, arith}
-use Rattle.std.proofs.lemmas.Fmt.{length-decimal-le}
+use Rattle.std.proofs.Common.{◌≤◌, length, length-append, decimal, ap, arith}
+use Rattle.std.proofs.lemmas.List.{length_push}
+use Rattle.dayfile.proofs.Slips.{short}
 use Rattle.dayfile.proofs.answers.write_answer.Goals as goal
+use Rattle.dayfile.proofs.answers.write_answer.Goals.{After-put}
 
--- a line's number has at most 20 digits
-short : (n : ℕ) → n < 2 ^ 64 → length (decimal n) ≤ 20
-short n h = length-decimal-le 20 n (omega arith) (omega arith) (omega arith)
-
-pub put_number-requires : goal.put_number-requires
-put_number-requires c = omega (arith, short c.args.number (omega arith), ap length c.new-slip.ensures)
-
-pub put_letter-requires : goal.put_letter-requires
-put_letter-requires c =
+-- the line's number and a comma take at most 21 bytes
+begun : (c : After-put) → length c.put.new.self ≤ 21
+begun c =
     let n = c.args.number in
-    omega (arith, short n (omega arith), ap length c.new-slip.ensures, ap length c.put_number.ensures, length-append c.new-slip.result (decimal n))
+    omega (arith, short n (omega arith), ap length c.new-slip.ensures, ap length c.put_number.ensures, length-append c.new-slip.result (decimal n), ap length c.put.ensures, length_push c.put_number.new.self 44)
+
+pub put-requires-2 : goal.put-requires-2
+put-requires-2 c = omega (arith, begun (goal.at.put-requires-2 c).After-put)
 
 pub put_answer-requires : goal.put_answer-requires
 put_answer-requires c =
-    let n = c.args.number in
-    omega (arith, short n (omega arith), ap length c.new-slip.ensures, ap length c.put_number.ensures, length-append c.new-slip.result (decimal n), ap length c.put_letter.ensures, length-append c.put_number.new.self (44 ∷ c.letter_of.result ∷ []))
+    omega (arith, begun (goal.at.put_answer-requires c).After-put, ap length c.put-2.ensures, length_push c.put.new.self c.letter_of.result)
 
-pub put-requires : goal.put-requires
-put-requires c =
-    let n = c.args.number in
-    omega (arith, c.put_answer.ensures.size, short n (omega arith), ap length c.new-slip.ensures, ap length c.put_number.ensures, length-append c.new-slip.result (decimal n), ap length c.put_letter.ensures, length-append c.put_number.new.self (44 ∷ c.letter_of.result ∷ []))
+pub put-requires-3 : goal.put-requires-3
+put-requires-3 c =
+    omega (arith, begun (goal.at.put-requires-3 c).After-put, ap length c.put-2.ensures, length_push c.put.new.self c.letter_of.result, c.put_answer.ensures.size)

@@ -1,14 +1,7 @@
 use Rattle.std.proofs.Common.{ap, ◌∙◌}
 use Rattle.dayfile.specs.Turns.{call_in_turn}
-use Rattle.dayfile.proofs.RoundTrip.{read_spelled}
 use Rattle.dayfile.proofs.Turns.{line_in_turn}
 use Rattle.dayfile.proofs.calls.read_call.Goals as goal
-
-pub returns-in_err-fields-clause-back : goal.returns-in_err-fields-clause-back
-returns-in_err-fields-clause-back c = read_spelled
-
-pub returns-in_err-kind-clause-back : goal.returns-in_err-kind-clause-back
-returns-in_err-kind-clause-back c = read_spelled
 
 pub returns-clause-call : goal.returns-clause-call
 returns-clause-call c =
@@ -16,6 +9,3 @@ returns-clause-call c =
     c.call.ensures
     ∙ ap (call_in_turn k) c.kind.ensures.rest
     ∙ line_in_turn c.args.line.now c.in_ok-fields.fields k c.in_ok-fields.ensures.fields c.in_ok-kind.ensures.kind
-
-pub returns-clause-back : goal.returns-clause-back
-returns-clause-back c = read_spelled

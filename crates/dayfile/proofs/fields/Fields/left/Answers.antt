@@ -1,15 +1,16 @@
-use Rattle.std.proofs.Common.{length, inl, refl, ap, ◌∙◌, arith}
-use Rattle.std.proofs.lemmas.Iterator.Consumers.{count_from_yields_List, YieldsList-from_first}
-use Rattle.dayfile.specs.Text.{parts_left}
+use Rattle.std.proofs.Common.{◌≡◌, ◌+◌, length, sym, ap, ◌∙◌, arith, rules}
+use Rattle.dayfile.specs.Text.{fields, parts_left}
 use Rattle.dayfile.specs.Looks.{next_number}
-use Rattle.dayfile.specs.Readers.{shown}
+use Rattle.dayfile.proofs.Cuts.{fields_count}
 use Rattle.dayfile.proofs.Numbers.{numbered_length}
 use Rattle.dayfile.proofs.fields.Fields.left.Goals as goal
 
-pub count-requires-clause-fits : goal.count-requires-clause-fits
-count-requires-clause-fits c =
-    let r = c.self.inside in
-    inl (omega (arith, c.self.invariant, numbered_length (next_number r.number) (parts_left r.rest)))
+pub overflow_add-result : goal.overflow_add-result
+overflow_add-result c = search (rules, c.commas.ensures, fields_count c.in-Some.rest.now, c.self.invariant, ap (λ o. length (parts_left o)) c.in-Some.is)
 
-pub returns : goal.returns
-returns c = count_from_yields_List _ c.count.result c.count.ensures.ran (YieldsList-from_first shown (λ left. left) _ refl) ∙ ap length c.self.view_is
+pub returns-in-Some : goal.returns-in-Some
+returns-in-Some c =
+    let r = c.self.inside in
+    let some : length (parts_left r.rest) ≡ length (fields c.in-Some.rest.now) = ap (λ o. length (parts_left o)) c.in-Some.is in
+    let left : c.commas.result + 1 ≡ length (parts_left r.rest) = omega (arith, some, c.commas.ensures, fields_count c.in-Some.rest.now) in
+    left ∙ sym (numbered_length (next_number r.number) (parts_left r.rest)) ∙ ap length c.self.view_is
