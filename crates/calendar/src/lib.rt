@@ -49,6 +49,7 @@ fn month_length(year: u32, month: u32) -> u32
     if month == 2 && year % 4 == 0 {
         29
     } else {
+        // there is no `From` to an index; the check proves that the cast keeps the number
         LENGTHS[(month - 1) as usize]
     }
 }

@@ -19,12 +19,12 @@ pub fn write_answer(number: u64, answer: Result<Answer, Fault>, out: &mut [u8; 1
     slip.put_number(number);
     slip.put(b',');
     slip.put(letter_of(answer));
-    put_answer(&mut slip, answer);
+    slip.put_answer(answer);
     slip.put(b'\n');
     slip.hand_out(out)
 }
 
-// A for an acceptance, N for a refusal. This letter and those of fates are of this format alone.
+// A for an acceptance, N for a refusal. It is of this format alone.
 fn letter_of(answer: Result<Answer, Fault>) -> u8
     ensures { result ≡ reply_letter answer }
 {
@@ -34,58 +34,63 @@ fn letter_of(answer: Result<Answer, Fault>) -> u8
     }
 }
 
-// Writes what stands behind the letter: the values of an acceptance, or the refusal's number and the field.
-fn put_answer(slip: &mut Slip, answer: Result<Answer, Fault>)
-    requires { length slip.old ≤ 30 }
-    ensures text { slip.new ≡ behind slip.old (reply_values answer) }
-    ensures size { length slip.new ≤ length slip.old + 84 }
-{
-    match answer {
-        Ok(answer) => put_values(slip, answer),
-        Err(fault) => {
-            slip.put_value(u64::from(fault.refusal.number()));
-            // there is no `From` between a size and a `u64`
-            slip.put_value(fault.field.map_or(0, |number| number as u64));
+impl Slip {
+    // Writes what stands behind the letter: the values of an acceptance, or the refusal's number and the field.
+    fn put_answer(&mut self, answer: Result<Answer, Fault>)
+        requires { length self.old ≤ 30 }
+        ensures text { self.new ≡ behind self.old (reply_values answer) }
+        ensures size { length self.new ≤ length self.old + 84 }
+    {
+        match answer {
+            Ok(answer) => self.put_values(answer),
+            Err(fault) => {
+                self.put_value(u64::from(fault.refusal.number()));
+                // there is no `From` between a size and a `u64`
+                self.put_value(fault.field.map_or(0, |number| number as u64));
+            }
+        }
+    }
+
+    // Writes the values of an acceptance, each behind a comma.
+    fn put_values(&mut self, answer: Answer)
+        requires { length self.old ≤ 30 }
+        ensures text { self.new ≡ behind self.old (answer_values answer) }
+        ensures size { length self.new ≤ length self.old + 84 }
+    {
+        match answer {
+            Answer::Opened { today } => self.put_value(today.map_or(
+                0,
+                |day| u64::from(day.number),
+            )),
+            // nor here
+            Answer::Registered { issue } => self.put_value(issue as u64),
+            Answer::Placed { outstanding: value }
+            | Answer::Instructed { serial: value }
+            | Answer::Cancelled { serial: value }
+            | Answer::Blocked { blocking: value }
+            | Answer::Released { blocking: value }
+            | Answer::RoundMade { legs: value }
+            | Answer::Redeemed { amount: value } => self.put_value(value),
+            Answer::Closed(ending) => {
+                self.put_value(ending.legs);
+                self.put_value(ending.refused);
+            }
+            Answer::Status { fate, cause } => {
+                self.put(b',');
+                self.put(fate_letter(fate));
+                self.put_value(behind_fate(fate, cause));
+            }
+            Answer::Holds(held) => {
+                self.put_value(held.own);
+                self.put_value(held.customer);
+                self.put_value(held.blocked_own);
+                self.put_value(held.blocked_customer);
+            }
         }
     }
 }
 
-// Writes the values of an acceptance, each behind a comma.
-fn put_values(slip: &mut Slip, answer: Answer)
-    requires { length slip.old ≤ 30 }
-    ensures text { slip.new ≡ behind slip.old (answer_values answer) }
-    ensures size { length slip.new ≤ length slip.old + 84 }
-{
-    match answer {
-        Answer::Opened { today } => slip.put_value(today.map_or(0, |day| u64::from(day.number))),
-        // nor here
-        Answer::Registered { issue } => slip.put_value(issue as u64),
-        Answer::Placed { outstanding: value }
-        | Answer::Instructed { serial: value }
-        | Answer::Cancelled { serial: value }
-        | Answer::Blocked { blocking: value }
-        | Answer::Released { blocking: value }
-        | Answer::RoundMade { legs: value }
-        | Answer::Redeemed { amount: value } => slip.put_value(value),
-        Answer::Closed(ending) => {
-            slip.put_value(ending.legs);
-            slip.put_value(ending.refused);
-        }
-        Answer::Status { fate, cause } => {
-            slip.put(b',');
-            slip.put(fate_letter(fate));
-            slip.put_value(behind_fate(fate, cause));
-        }
-        Answer::Holds(held) => {
-            slip.put_value(held.own);
-            slip.put_value(held.customer);
-            slip.put_value(held.blocked_own);
-            slip.put_value(held.blocked_customer);
-        }
-    }
-}
-
-// The letter of a fate.
+// The letter of a fate, of this format alone.
 fn fate_letter(fate: Fate) -> u8
     ensures { result ≡ fate_letter fate }
 {

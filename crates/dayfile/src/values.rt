@@ -35,6 +35,7 @@ impl FromField for usize {
     ghost said = { number_of };
 
     fn from_field(field: Field<'_>) -> Option<usize> {
+        // there is no `From` between the two, and the cast is proved to keep the number
         u64::from_field(field).map(|number| number as usize)
     }
 }
@@ -45,6 +46,7 @@ impl FromField for Date {
 
     fn from_field(field: Field<'_>) -> Option<Date> {
         match field {
+            // eight digits fit, and the cast is proved to keep the number
             Field::Date(bytes) if is_eight(bytes) => Some(Date {
                 number: value(bytes) as u32,
             }),

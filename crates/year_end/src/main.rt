@@ -2,6 +2,7 @@
 #![tactic(auto)]
 
 ghost use Rattle.std.specs.Prelude.{◌≡◌, Ok};
+ghost use Rattle.rulebook.specs.States.{date_of};
 ghost use Rattle.rulebook.specs.declared.Call.TheVariants.{Opening, Closing};
 ghost use Rattle.rulebook.specs.declared.Answer.TheVariants.{Opened};
 ghost use Rattle.register.specs.Shows.{next};
@@ -20,14 +21,16 @@ fn one_day(shut: Shut) -> (Option<Date>, Shut)
     (today, shut)
 }
 
+// The number of a day, 0 for none.
+fn number(day: Option<Date>) -> u32
+    ensures { result ≡ date_of day }
+{
+    day.map_or(0, |day| day.number)
+}
+
 // So many days, one after the other.
 fn pass_days(shut: Shut, count: u32) -> Shut {
-    let mut shut = shut;
-    for _ in 0..count {
-        let (_, after) = one_day(shut);
-        shut = after;
-    }
-    shut
+    (0..count).fold(shut, |shut, _| one_day(shut).1)
 }
 
 fn main(rt: HostRuntime) -> anyhow::Result<()> {
@@ -38,8 +41,8 @@ fn main(rt: HostRuntime) -> anyhow::Result<()> {
     let (fourth, shut) = one_day(shut);
     let last = shut.finish();
     for today in [first, second, third, fourth] {
-        println!(rt; "opened on {}", today.map_or(0, |day| day.number))?;
+        println!(rt; "opened on {}", number(today))?;
     }
-    println!(rt; "last business day {}", last.map_or(0, |day| day.number))?;
+    println!(rt; "last business day {}", number(last))?;
     Ok(())
 }

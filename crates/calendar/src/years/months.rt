@@ -63,6 +63,7 @@ impl MonthMasks {
         ensures long { result.length ≡ length_of self.now.first i }
         ensures marks { result.mask ≡ mask }
     {
+        // both casts are proved to keep the number: there are at most 240 months
         let year = self.first + (i / 12) as u32;
         let month = (i % 12) as u32 + 1;
         Month {

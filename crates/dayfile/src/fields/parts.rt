@@ -1,7 +1,7 @@
 // The fields of a line, one after the other.
-ghost use Rattle.std.specs.Prelude.{◌≡◌, length, count_by, ◌==◌};
+ghost use Rattle.std.specs.Prelude.{◌≡◌, length};
 ghost use Rattle.std.specs.Iterator.{YieldsFirstBy, item_count};
-ghost use Rattle.dayfile.specs.Text.{FieldsParted};
+ghost use Rattle.dayfile.specs.Text.{fields, FieldsParted};
 ghost use Rattle.dayfile.specs.Readers.{shown, line_fields};
 
 use crate::field::Field;
@@ -26,21 +26,20 @@ impl<'a> Fields<'a> {
     }
 
     // How many fields are left.
+    #[tactic(auto, using(crate::proofs::Numbers::numbered_length))]
     pub(crate) fn left(&self) -> usize
         ensures { result ≡ length self.now }
     {
-        match self.rest {
-            Some(rest) => commas(rest) + 1,
-            None => 0,
-        }
+        self.rest.map_or(0, field_count)
     }
 }
 
-// How many commas stand among bytes.
-fn commas(bytes: &[u8]) -> usize
-    ensures { result ≡ count_by (λ b. b == 44) bytes.now }
+// How many fields bytes have: one more than commas.
+#[tactic(auto, using(crate::proofs::Cuts::fields_count))]
+fn field_count(bytes: &[u8]) -> usize
+    ensures { result ≡ length (fields bytes.now) }
 {
-    bytes.iter().filter(|b| **b == b',').count()
+    bytes.iter().filter(|b| **b == b',').count() + 1
 }
 
 // The fields that are left, each with its number.

@@ -24,8 +24,8 @@ impl Slip {
         self.size += 1;
     }
 
-    // Writes a number in base ten, digit by digit: the library's formatting is not promised to succeed, and the kit's
-    // writer of numbers would be one more library to trust.
+    // Writes a number in base ten, digit by digit, without heap: the library's formatting is not promised to succeed, and
+    // the kit's writer of numbers would be one more library to trust. Each cast is of a number below ten.
     pub(crate) fn put_number(&mut self, number: u64)
         requires { length self.old + length (decimal number) ≤ 120 }
         ensures { self.new ≡ self.old ++ decimal number }

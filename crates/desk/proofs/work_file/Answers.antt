@@ -1,3 +1,4 @@
+-- What the search does not find alone.
 use Rattle.std.proofs.Common.{◌≡◌, List, length, ap, arith}
 use Rattle.register.specs.Shows.{View}
 use Rattle.dayfile.proofs.Cuts.{same_lines}

@@ -1,3 +1,4 @@
+-- What the search does not find alone.
 use Rattle.std.proofs.Common.{◌≤◌, length, length-append, decimal, ap, arith}
 use Rattle.std.proofs.lemmas.List.{length_push}
 use Rattle.dayfile.proofs.Slips.{short}

@@ -1,3 +1,4 @@
+-- What the search does not find alone.
 use Rattle.std.proofs.Common.{ap, ◌∙◌}
 use Rattle.dayfile.specs.Turns.{call_in_turn}
 use Rattle.dayfile.proofs.Turns.{line_in_turn}

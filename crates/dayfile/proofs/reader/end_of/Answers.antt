@@ -1,3 +1,4 @@
+-- What the search does not find alone.
 use Rattle.std.proofs.Common.{length, unwrap_or, ap, ◌∙◌}
 use Rattle.dayfile.proofs.Cuts.{before_place}
 use Rattle.dayfile.proofs.reader.end_of.Goals as goal

@@ -1,3 +1,4 @@
+-- What the search does not find alone.
 use Rattle.std.proofs.Common.{drop, arith}
 use Rattle.dayfile.proofs.Figures.{digits_below, digit, value_grows}
 use Rattle.dayfile.proofs.values.value.Goals as goal

@@ -1,3 +1,4 @@
+-- What the search does not find alone.
 use Rattle.std.proofs.Common.{ap, ◌∙◌, subst}
 use Rattle.std.specs.Prelude.{◌≡◌, MatchResult}
 use Rattle.refusals.specs.declared.Refusal.TheVariants.{CalendarLimits}

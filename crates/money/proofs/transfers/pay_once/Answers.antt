@@ -1,3 +1,4 @@
+-- What the search does not find alone.
 use Rattle.std.proofs.Common.{rules}
 use Rattle.money.proofs.Lawful.{payment_lawful}
 use Rattle.money.proofs.transfers.pay_once.Goals as goal

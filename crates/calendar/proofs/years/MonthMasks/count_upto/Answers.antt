@@ -1,3 +1,4 @@
+-- What the search does not find alone.
 use Rattle.std.proofs.Common.{rules, ℕ, ◌-◌, ◌%◌, ◌^◌, ◌∙◌, arith}
 use borrow.Author.Tests.{tests}
 use lib.Count.{ones}

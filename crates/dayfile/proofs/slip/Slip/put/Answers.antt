@@ -1,3 +1,4 @@
+-- What the search does not find alone.
 use Rattle.std.proofs.Common.{rules}
 use Rattle.dayfile.proofs.Slips.{zeros_more}
 use Rattle.dayfile.proofs.slip.Slip.put.Goals as goal

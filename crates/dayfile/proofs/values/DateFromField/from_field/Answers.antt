@@ -1,3 +1,4 @@
+-- What the search does not find alone.
 use Rattle.std.proofs.Common.{sym, arith}
 use Rattle.dayfile.proofs.Figures.{eight_below}
 use Rattle.dayfile.proofs.values.DateFromField.from_field.Goals as goal

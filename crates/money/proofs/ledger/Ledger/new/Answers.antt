@@ -1,3 +1,4 @@
+-- What the search does not find alone.
 use Rattle.std.proofs.Common.{rules, ◌≤◌, All, length, vec_items, arith}
 use Rattle.std.proofs.lemmas.List.Sums.{sum_by-le}
 use Rattle.money.proofs.ledger.Ledger.new.Goals as goal

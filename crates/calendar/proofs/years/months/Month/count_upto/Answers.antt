@@ -1,3 +1,4 @@
+-- What the search does not find alone.
 use Rattle.std.proofs.Common.{◌-◌, ◌*◌, ◌%◌, ◌^◌, arith}
 use lib.Count.{ones-le}
 use Rattle.calendar.proofs.Counts.{low_ones, all_ones, low_few}

@@ -1,3 +1,4 @@
+-- What the search does not find alone.
 use Rattle.std.proofs.Common.{rules, ◌≡◌, ◌+◌, ◌-◌, ◌&&◌, leb, refl, ap, ◌∙◌, arith}
 use borrow.Author.Tests.{tests}
 use Rattle.std.specs.Option.{option_map}

@@ -1,3 +1,4 @@
+-- What the search does not find alone.
 use Rattle.std.proofs.Common.{◌≡◌, ◌+◌, ◌∷◌, take, length, sym, ap, ◌∙◌, arith}
 use Rattle.dayfile.specs.Text.{parts_left}
 use Rattle.dayfile.specs.Looks.{look_of, numbered, next_number}
