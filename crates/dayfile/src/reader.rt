@@ -49,10 +49,18 @@ impl<'a> Iterator for Lines<'a> {
         if rest.is_empty() {
             return None;
         }
-        let end = end_of(rest, b'\n');
+        let end = line_end(rest);
         self.place += end + 1;
         Some(&rest[..end])
     }
+}
+
+// Where the line in front ends.
+fn line_end(bytes: &[u8]) -> usize
+    ensures value { result ≡ length (before 10 bytes.now) }
+    ensures bound { result ≤ length bytes.now }
+{
+    end_of(bytes, b'\n')
 }
 
 // Where the part in front ends: before the first mark, or with the bytes.

@@ -1,5 +1,6 @@
 // The calendar of the day program: the year 2025, Monday to Friday but 1 January.
-ghost use Rattle.std.specs.Prelude.{◌≡◌, IfOk};
+ghost use Rattle.std.specs.Prelude.{◌≡◌, true, IfOk};
+ghost use Rattle.calendar.specs.Masks.{business_days, fits};
 ghost use Rattle.calendar.specs.Calendars.{days_of};
 ghost use Rattle.desk.specs.Year.{business_days_2025};
 
@@ -27,5 +28,13 @@ pub fn year_2025(heap: Global) -> Result<Calendar, AllocError>
     ensures { IfOk result (λ c. days_of c ≡ business_days_2025) }
 {
     let masks = MASKS.to_vec(heap)?;
-    Ok(Calendar::new(2025, 1, masks).unwrap())
+    Ok(calendar_of(masks))
+}
+
+// The calendar of 2025 by the masks of its months.
+fn calendar_of(masks: Vec<u32>) -> Calendar
+    requires { fits 2025 1 masks.items ≡ true }
+    ensures { days_of result ≡ business_days 2025 masks.items }
+{
+    Calendar::new(2025, 1, masks).unwrap()
 }

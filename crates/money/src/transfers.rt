@@ -20,6 +20,14 @@ pub fn pay_once<M: Money>(money: &mut M, order: Payment) -> Result<(), Refusal>
     ensures after { M.Money.meaning money.new ≡ funds_after (M.Money.meaning money.old) order }
     ensures lawful { Lawful order (M.Money.meaning money.old) (M.Money.meaning money.new) result }
 {
+    pay(money, order)
+}
+
+// Makes a payment: the answer, and the funds after it.
+fn pay<M: Money>(money: &mut M, order: Payment) -> Result<(), Refusal>
+    ensures answer { result ≡ answer_to (M.Money.meaning money.old) order }
+    ensures after { M.Money.meaning money.new ≡ funds_after (M.Money.meaning money.old) order }
+{
     money.pay(order)
 }
 

@@ -1,5 +1,5 @@
 // The fields of a line, one after the other.
-ghost use Rattle.std.specs.Prelude.{◌≡◌, length};
+ghost use Rattle.std.specs.Prelude.{◌≡◌, ◌+◌, ◌≤◌, length};
 ghost use Rattle.std.specs.Iterator.{YieldsFirstBy, item_count};
 ghost use Rattle.dayfile.specs.Text.{fields, FieldsParted};
 ghost use Rattle.dayfile.specs.Readers.{shown, line_fields};
@@ -54,7 +54,15 @@ impl<'a> Iterator for Fields<'a> {
         let rest = self.rest?;
         let end = end_of(rest, b',');
         self.rest = rest.get(end + 1..);
-        self.number += 1;
+        self.number = number_behind(self.number);
         Some((self.number, Field::from(&rest[..end])))
     }
+}
+
+// The number of the field behind one of that number, 0 for none.
+fn number_behind(number: usize) -> usize
+    requires { number ≤ 120 }
+    ensures { result ≡ number + 1 }
+{
+    number + 1
 }
