@@ -1,11 +1,11 @@
 -- The business days are exactly the dates that the masks mark.
 use Rattle.std.proofs.Common.{◌≡◌, ℕ, zero, suc, ◌+◌, ◌-◌, ◌*◌, ◌/◌, ◌%◌, ◌^◌, ◌<◌, ◌≤◌, Bool, true, false, cond, ◌&&◌, ◌||◌, eqb, leb, ◌⊎◌, List, [], ◌∷◌, ◌++◌, get_or, sym, refl, ap, ◌∙◌, inl, inr, add-suc, arith}
-use native.Mathlib.Nat.{zero-div}
 use Rattle.std.proofs.lemmas.Bool.{and_parts, leb-true, leb-false, ne_eqb, true≢false, cases_order}
 use Rattle.std.proofs.lemmas.Nat.{div-mul-add, mod-mul-add}
 use Rattle.std.proofs.lemmas.Bool.Decides.{nat_tests}
 use Rattle.calendar.specs.Days.{month_length, is_date, is_business, AllDates}
 use Rattle.calendar.specs.Masks.{is_set, number_of, length_of, days_from, days_in, months_from, business_days, AsMarked, Made}
+use Rattle.calendar.proofs.Walks.{no_mask}
 use Rattle.calendar.proofs.Laws.{rising_months, dates_months, below_none, short, lawful}
 
 business_append : (x : ℕ) (xs ys : List ℕ) → is_business x (xs ++ ys) ≡ (is_business x xs || is_business x ys)
@@ -51,9 +51,6 @@ days_marked month mask (suc n) e d h k =
         let other : eqb (month + e) (month + d) ≡ false = grind (arith, nat_tests) in
         grind (arith, nat_tests)
     go (inr (inr l)) rest = absurd (omega arith)
-
-no_mask : (d : ℕ) → is_set 0 d ≡ false
-no_mask d = ap (λ n. eqb (n % 2) 1) (zero-div (2 ^ (d - 1)))
 
 -- day d of the first month, and of the month i, k months on from j
 first_marked : (first mask : ℕ) (masks : List ℕ) (i d : ℕ) → 1 ≤ d → d ≤ length_of first i

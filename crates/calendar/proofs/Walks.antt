@@ -1,7 +1,9 @@
 -- Steps through days and months: what is left to look at, one day or one month on.
-use Rattle.std.proofs.Common.{◌≡◌, ℕ, zero, suc, ◌+◌, Bool, true, false, cond, ◌&&◌, leb, List, [], ◌∷◌, ◌++◌, Some, None, Option, is_some, sym, refl, ◌∙◌, arith}
+use Rattle.std.proofs.Common.{◌≡◌, ℕ, zero, suc, ◌+◌, ◌-◌, ◌%◌, ◌^◌, ◌≤◌, Bool, true, false, cond, ◌&&◌, eqb, leb, List, [], ◌∷◌, ◌++◌, Some, None, Option, is_some, sym, refl, ap, ◌∙◌, arith}
+use native.Mathlib.Nat.{zero-div}
 use Rattle.std.specs.List.{find, range_with_len, enumerate_from}
 use Rattle.std.specs.Option.{option_map}
+use Rattle.std.proofs.lemmas.Bool.Decides.{nat_tests}
 use Rattle.calendar.specs.Days.{first_from}
 use Rattle.calendar.specs.Masks.{is_set, days_from, days_in, months_from}
 use Rattle.calendar.proofs.Searches.{first_answer}
@@ -19,6 +21,25 @@ day_found month mask x d (suc n) =
     elim (is_set mask d && leb x (month + d)) as (λ t. option_map (λ k. month + k) (cond t (Some d) (find (λ k. is_set mask k && leb x (month + k)) (range_with_len (d + 1) n))) ≡ cond t (Some (month + d)) (first_from x (days_from month mask (d + 1) n)))
     [ true ↦ refl | false ↦ day_found month mask x (d + 1) n ]
     ∙ sym (first_day x (month + d) (is_set mask d) (days_from month mask (d + 1) n))
+
+-- no bit of 0 is set
+pub no_mask : (d : ℕ) → is_set 0 d ≡ false
+no_mask d = ap (λ n. eqb (n % 2) 1) (zero-div (2 ^ (d - 1)))
+
+-- of the days of a month without business days, none is found
+pub month_empty : (month mask x d n : ℕ) → mask ≡ 0 → first_from x (days_from month mask d n) ≡ None
+month_empty month mask x d zero e = refl
+month_empty month mask x d (suc n) e =
+    first_day x (month + d) (is_set mask d) (days_from month mask (d + 1) n)
+    ∙ ap (λ s. cond (s && leb x (month + d)) (Some (month + d)) (first_from x (days_from month mask (d + 1) n))) (ap (λ m. is_set m d) e ∙ no_mask d)
+    ∙ month_empty month mask x (d + 1) n e
+
+-- of n days of a month from d on, none is late enough if the last is not
+pub month_ended : (month mask x d n : ℕ) → month + d + n ≤ x → first_from x (days_from month mask d n) ≡ None
+month_ended month mask x d zero h = refl
+month_ended month mask x d (suc n) h =
+    first_day x (month + d) (is_set mask d) (days_from month mask (d + 1) n)
+    ∙ grind (arith, nat_tests, month_ended month mask x (d + 1) n (omega arith))
 
 -- a search through two lists goes on to the second only where the first has nothing
 first_found : (x n : ℕ) (xs ys : List ℕ) → first_from x xs ≡ Some n → first_from x (xs ++ ys) ≡ Some n

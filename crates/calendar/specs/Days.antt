@@ -1,5 +1,6 @@
 -- Dates, and the business days of a calendar.
 use Rattle.std.specs.Prelude.{◌≡◌, ℕ, ◌+◌, ◌-◌, ◌*◌, ◌/◌, ◌%◌, ◌<◌, Bool, true, false, cond, ◌&&◌, ◌||◌, leb, List, [], ◌∷◌, length, Some, None, Option, ◌==◌, nat_le, nat_lt, slice_index}
+use Rattle.std.specs.Coded.{×_prop, Unit-prop, le_prop, Coded-set, coded_bool}
 
 -- the lengths of the twelve months
 abbrev pub lengths : List ℕ
@@ -60,3 +61,15 @@ AllDates (b ∷ bs) = (is_date b ≡ true) × AllDates bs
 -- business days rise, and each is a calendar date
 abbrev pub LawfulDays : List ℕ → Type 0
 LawfulDays bs = RisingAbove 0 bs × AllDates bs
+
+-- any two proofs that days are lawful are the same, as a ghost field needs
+pub lawful_days_prop : (bs : List ℕ) → IsProp (LawfulDays bs)
+lawful_days_prop bs = ×_prop (rising 0 bs) (dates bs)
+  where
+    rising : (low : ℕ) (bs : List ℕ) → IsProp (RisingAbove low bs)
+    rising low [] = Unit-prop
+    rising low (b ∷ bs) = ×_prop le_prop (rising b bs)
+
+    dates : (bs : List ℕ) → IsProp (AllDates bs)
+    dates [] = Unit-prop
+    dates (b ∷ bs) = ×_prop (Coded-set coded_bool _ _) (dates bs)

@@ -32,10 +32,18 @@ impl Month {
         (self.mask >> (day - 1)) % 2 == 1
     }
 
-    // The first business day whose number is at least `from`.
+    // The first business day whose number is at least `from`. A month without business days is passed by one test, and so is
+    // one that ends before `from`.
+    #[tactic(auto, using(crate::proofs::Walks::month_empty, crate::proofs::Walks::month_ended))]
     fn first_from(self, from: u64) -> Option<u32>
         ensures { result ≡ first_from from (days_from self.number self.mask 1 self.length) }
     {
+        if self.mask == 0 {
+            return None;
+        }
+        if u64::from(self.number + self.length) < from {
+            return None;
+        }
         (1..self.length + 1)
             .find(|day| self.is_set(*day) && u64::from(self.number + *day) >= from)
             .map(|day| self.number + day)
