@@ -1,4 +1,4 @@
-ghost use Rattle.std.specs.Prelude.{ℕ, ◌≤◌, ◌<◌, All, length, vec_len};
+ghost use Rattle.std.specs.Prelude.{ℕ, ◌≤◌, vec_len};
 
 use crate::Money;
 
@@ -11,11 +11,12 @@ pub struct Agents {
 }
 
 // Participants who pay and are paid through agents, the participants of the money side below. Its agents stand in an
-// inner table by a rule of the project; it has no model for the ledger's reason.
+// inner table by a rule of the project; it has no model for the ledger's reason. That every row names a participant below is
+// no ghost field: it would cite the bound, and keep a table out of other bounds, and a table on a table out of the fields of
+// generic structs.
 pub struct AgentTable<M: Money> {
     below: M,
     agents: Agents,
-    ghost named: { All (λ row. row < length (M.meaning below).accounts) agents.rows.items },
 }
 
 pub mod rows;

@@ -95,7 +95,7 @@ fn through_agents<M: Money>(
     }
 }
 
-// The same through a table on a table. What to do on a table cannot be a closure: no bound may name AgentTable yet.
+// The same through a table on a table. A closure in place of the two would have to promise in its contract what they do.
 fn through_both<M: Money>(
     rt: &HostRuntime,
     below: M,

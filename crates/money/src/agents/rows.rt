@@ -1,21 +1,28 @@
-ghost use Rattle.std.specs.Prelude.{◌≡◌, slice_index};
+ghost use Rattle.std.specs.Prelude.{◌≡◌, ◌<◌, All, MatchBool, slice_index};
 ghost use Rattle.money.specs.Funds.{asked};
-ghost use Rattle.money.specs.Agents.{table_funds, Tabled};
+ghost use Rattle.money.specs.Agents.{agent, table_funds, Tabled};
 ghost use Rattle.money.specs.Soundness.{table_sound};
 
 use super::{AgentTable, Agents};
 use crate::{FEWEST_PARTICIPANTS, MOST_PARTICIPANTS, Money, Payment};
 use refusals::Refusal;
 
+// Whether some row names none of so many participants.
+fn name_nobody(rows: &[usize], known: usize) -> bool
+    ensures { MatchBool result (All (λ row. row < known) rows.now → ⊥) (All (λ row. row < known) rows.now) }
+{
+    rows.iter().any(|row| *row >= known)
+}
+
 impl<M: Money> AgentTable<M> {
     // A table of 2 to 32 rows that all name participants below; else the money side comes back. The error is a pair, as
     // who gets it takes the two apart at once.
     pub fn new(below: M, rows: Vec<usize>) -> Result<AgentTable<M>, (Refusal, M)>
-        ensures { Tabled M.Money below rows.items result }
+        ensures { Tabled M.Money.meaning below rows.items result }
     {
         let known = below.participants();
         if !(FEWEST_PARTICIPANTS..=MOST_PARTICIPANTS).contains(&rows.len())
-            || rows.iter().any(|row| *row >= known)
+            || name_nobody(rows.as_slice(), known)
         {
             return Err((Refusal::AgentTableLimits, below));
         }
@@ -34,23 +41,30 @@ impl<M: Money> AgentTable<M> {
         below
     }
 
-    // The agent of a participant, if there is such a participant.
+    // The agent of a participant, if there is such a participant; a row that names nobody below reads as participant 0.
+    #[tactic(auto, using(crate::proofs::Tables::by_rows))]
     fn agent(&self, participant: usize) -> Result<usize, Refusal>
         ensures { let table = self.now in
-            result ≡ asked (table_funds M.Money table) participant (slice_index table.agents.rows.items participant) }
+            result ≡ asked (table_funds M.Money.meaning table) participant (agent (M.Money.meaning table.below) (slice_index table.agents.rows.items participant)) }
     {
-        self.agents
+        let row = self
+            .agents
             .rows
             .get(participant)
             .copied()
-            .ok_or(Refusal::UnknownParticipant)
+            .ok_or(Refusal::UnknownParticipant)?;
+        if row < self.below.participants() {
+            Ok(row)
+        } else {
+            Ok(0)
+        }
     }
 }
 
 impl<M: Money> Money for AgentTable<M> {
-    ghost meaning = { table_funds M.Money };
+    ghost meaning = { table_funds M.Money.meaning };
 
-    ghost sound = { table_sound M.Money M.Money.sound };
+    ghost sound = { table_sound M.Money.meaning M.Money.sound };
 
     fn participants(&self) -> usize {
         self.agents.rows.len()
