@@ -1,6 +1,7 @@
 // Calls out of lines.
 ghost use Rattle.std.specs.Prelude.{◌≡◌};
 ghost use Rattle.dayfile.specs.Text.{rest_of};
+ghost use Rattle.dayfile.specs.Readers.{fields_left};
 ghost use Rattle.dayfile.specs.Calls.{read_call};
 ghost use Rattle.dayfile.specs.Turns.{next_value, placement_in_turn, order_in_turn, pledge_in_turn, call_in_turn};
 ghost use Rattle.dayfile.specs.Kinds.{kind_letter};
@@ -46,7 +47,7 @@ pub fn call_letter(call: Call) -> char
 impl Fields<'_> {
     // The call of a kind by the fields behind it, read in turn.
     fn call(&mut self, kind: Kind) -> Result<Call, Fault>
-        ensures { result ≡ call_in_turn kind self.old }
+        ensures { result ≡ call_in_turn kind (fields_left self.old) }
     {
         let call = match kind {
             Kind::Opening => Call::Opening,
@@ -83,7 +84,7 @@ impl Fields<'_> {
     }
 
     fn placement(&mut self) -> Result<Placement, Fault>
-        ensures { result ≡ placement_in_turn self.old }
+        ensures { result ≡ placement_in_turn (fields_left self.old) }
     {
         Ok(Placement {
             issue: self.value()?,
@@ -95,7 +96,7 @@ impl Fields<'_> {
     }
 
     fn order(&mut self) -> Result<Order, Fault>
-        ensures { result ≡ order_in_turn self.old }
+        ensures { result ≡ order_in_turn (fields_left self.old) }
     {
         Ok(Order {
             sender: self.value()?,
@@ -113,7 +114,7 @@ impl Fields<'_> {
     }
 
     fn pledge(&mut self) -> Result<Pledge, Fault>
-        ensures { result ≡ pledge_in_turn self.old }
+        ensures { result ≡ pledge_in_turn (fields_left self.old) }
     {
         Ok(Pledge {
             participant: self.value()?,
@@ -125,8 +126,8 @@ impl Fields<'_> {
 
     // The value of the next field; one that is not of its form is refused with its number.
     fn value<T: FromField>(&mut self) -> Result<T, Fault>
-        ensures value { result ≡ next_value T.said self.old }
-        ensures rest { self.new ≡ rest_of self.old }
+        ensures value { result ≡ next_value T.said (fields_left self.old) }
+        ensures rest { fields_left self.new ≡ rest_of (fields_left self.old) }
     {
         let (number, field) = self.next().ok_or(Refusal::FieldCount)?;
         T::from_field(field).ok_or(Fault {

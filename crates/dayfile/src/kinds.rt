@@ -1,6 +1,7 @@
 // The kinds of lines, and how many fields they have.
 ghost use Rattle.std.specs.Prelude.{◌≡◌, length};
 ghost use Rattle.dayfile.specs.Text.{rest_of};
+ghost use Rattle.dayfile.specs.Readers.{fields_left};
 ghost use Rattle.dayfile.specs.Kinds.{named_kind, forms, fields_kind, read_kind};
 
 use crate::fields::Fields;
@@ -77,13 +78,13 @@ pub fn read_kind(line: &[u8]) -> Result<Kind, Refusal>
 impl Fields<'_> {
     // The kind that the first field names, if the right number of fields stands behind it: these are left.
     pub(crate) fn kind(&mut self) -> Result<Kind, Refusal>
-        ensures kind { result ≡ fields_kind self.old }
-        ensures rest { self.new ≡ rest_of self.old }
+        ensures kind { result ≡ fields_kind (fields_left self.old) }
+        ensures rest { fields_left self.new ≡ rest_of (fields_left self.old) }
     {
         let (_, field) = self.next().ok_or(Refusal::UnknownKind)?;
         let letter = field.letter().ok_or(Refusal::UnknownKind)?;
         let kind = Kind::try_from(letter)?;
-        if self.left() == kind.fields() {
+        if self.are_left(kind.fields()) {
             Ok(kind)
         } else {
             Err(Refusal::FieldCount)

@@ -16,3 +16,4 @@ pub use field::Field;
 pub use fields::Fields;
 pub use kinds::{Kind, read_kind};
 pub use reader::Lines;
+pub use rulebook::Fault;

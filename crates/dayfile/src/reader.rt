@@ -1,6 +1,7 @@
 // Readers that hand out the lines of a file.
 ghost use Rattle.std.specs.Prelude.{◌≡◌, ℕ, ◌≤◌, List, length, drop, position, ◌==◌};
 ghost use Rattle.std.specs.Iterator.{YieldsFirstRef, item_count};
+ghost use Rattle.std.specs.Result.{result_map_both};
 ghost use Rattle.dayfile.specs.Text.{before, lines, LinesParted, SameLines};
 ghost use Rattle.dayfile.specs.Readers.{file_lines};
 
@@ -8,7 +9,7 @@ use refusals::Refusal;
 use std::marker::Model;
 
 // A day file, and the place from which it has still to be read, by a rule of the project for this reader. Contracts see
-// the lines that are left.
+// the bytes that are left.
 #[derive(Drop)]
 pub struct Lines<'a> {
     file: &'a [u8],
@@ -16,16 +17,16 @@ pub struct Lines<'a> {
 }
 
 impl<'a> Model for Lines<'a> {
-    ghost Value = { List (List ℕ) };
+    ghost Value = { List ℕ };
 
-    ghost view = { λ r. lines (drop r.place r.file.now) };
+    ghost view = { λ r. drop r.place r.file.now };
 }
 
 impl<'a> Lines<'a> {
     // A reader before the first line; a file of more than 65,536 bytes is refused.
     #[tactic(auto, using(crate::proofs::Parted::lines_parted, crate::proofs::Cuts::same_lines))]
     pub fn new(file: &'a [u8]) -> Result<Lines<'a>, Refusal>
-        ensures lines { result ≡ file_lines file.now }
+        ensures lines { result_map_both lines (λ e. e) result ≡ file_lines file.now }
         ensures parted { LinesParted }
         ensures ends { SameLines }
     {
@@ -40,9 +41,9 @@ impl<'a> Lines<'a> {
 impl<'a> Iterator for Lines<'a> {
     type Item = &'a [u8];
 
-    ghost next_gives = { YieldsFirstRef (λ left. left) };
+    ghost next_gives = { YieldsFirstRef lines };
 
-    ghost remaining = { item_count (λ left. left) };
+    ghost remaining = { item_count lines };
 
     fn next(&mut self) -> Option<&'a [u8]> {
         let rest = self.file.get(self.place..)?;

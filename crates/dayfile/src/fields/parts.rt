@@ -1,8 +1,9 @@
 // The fields of a line, one after the other.
-ghost use Rattle.std.specs.Prelude.{◌≡◌, ◌+◌, ◌≤◌, length};
+ghost use Rattle.std.specs.Prelude.{◌≡◌, ◌==◌, ◌+◌, ◌≤◌, length};
 ghost use Rattle.std.specs.Iterator.{YieldsFirstBy, item_count};
+ghost use Rattle.std.specs.Result.{result_map_both};
 ghost use Rattle.dayfile.specs.Text.{fields, FieldsParted};
-ghost use Rattle.dayfile.specs.Readers.{shown, line_fields};
+ghost use Rattle.dayfile.specs.Readers.{shown, fields_left, line_fields};
 
 use crate::field::Field;
 use crate::fields::Fields;
@@ -13,7 +14,7 @@ impl<'a> Fields<'a> {
     // A reader before the first field; an empty line, and one of more than 120 bytes, are refused.
     #[tactic(auto, using(crate::proofs::Parted::fields_parted, crate::proofs::Cuts::fields_few))]
     pub fn new(line: &'a [u8]) -> Result<Fields<'a>, Refusal>
-        ensures fields { result ≡ line_fields line.now }
+        ensures fields { result_map_both fields_left (λ e. e) result ≡ line_fields line.now }
         ensures parted { FieldsParted }
     {
         if line.is_empty() || line.len() > 120 {
@@ -25,30 +26,30 @@ impl<'a> Fields<'a> {
         })
     }
 
-    // How many fields are left.
+    // Whether so many fields are left.
     #[tactic(auto, using(crate::proofs::Numbers::numbered_length))]
-    pub(crate) fn left(&self) -> usize
-        ensures { result ≡ length self.now }
+    pub(crate) fn are_left(&self, count: usize) -> bool
+        ensures { result ≡ (length (fields_left self.now) == count) }
     {
-        self.rest.map_or(0, field_count)
+        self.rest.map_or(count == 0, |rest| has_fields(rest, count))
     }
 }
 
-// How many fields bytes have: one more than commas.
+// Whether bytes have so many fields, one more than commas. It looks no further than it takes to tell.
 #[tactic(auto, using(crate::proofs::Cuts::fields_count))]
-fn field_count(bytes: &[u8]) -> usize
-    ensures { result ≡ length (fields bytes.now) }
+fn has_fields(bytes: &[u8], count: usize) -> bool
+    ensures { result ≡ (length (fields bytes.now) == count) }
 {
-    bytes.iter().filter(|b| **b == b',').count() + 1
+    bytes.iter().filter(|b| **b == b',').take(count).count() + 1 == count
 }
 
 // The fields that are left, each with its number.
 impl<'a> Iterator for Fields<'a> {
     type Item = (usize, Field<'a>);
 
-    ghost next_gives = { YieldsFirstBy shown (λ left. left) };
+    ghost next_gives = { YieldsFirstBy shown fields_left };
 
-    ghost remaining = { item_count (λ left. left) };
+    ghost remaining = { item_count fields_left };
 
     fn next(&mut self) -> Option<(usize, Field<'a>)> {
         let rest = self.rest?;

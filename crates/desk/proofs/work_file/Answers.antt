@@ -1,6 +1,7 @@
 -- What the search does not find alone.
 use Rattle.std.proofs.Common.{◌≡◌, List, length, ap, arith}
 use Rattle.register.specs.Shows.{View}
+use Rattle.dayfile.specs.Text.{lines}
 use Rattle.dayfile.proofs.Cuts.{same_lines}
 use Rattle.desk.specs.Work.{LineReply, LastLineCounts}
 use Rattle.desk.proofs.Files.{resumed, few_lines, last_line_counts}
@@ -15,6 +16,6 @@ loop-line-init c =
     let v = c.args.register.now in
     let it = c.into_iter-line-iterator.result in
     let begun : it ≡ c.in_ok-lines.lines = c.into_iter-line-iterator.ensures.into_iter_gives in (
-      ap {B = View × List LineReply} (λ done. resumed v done it) made.items,
-      omega (arith, made.len, made.capacity, few_lines c.args.file.now c.in_ok-lines.lines c.in_ok-lines.ensures.lines, ap length begun),
+      ap {B = View × List LineReply} (λ done. resumed v done (lines it)) made.items,
+      omega (arith, made.len, made.capacity, few_lines c.args.file.now (lines c.in_ok-lines.lines) c.in_ok-lines.ensures.lines, ap (λ r. length (lines r)) begun),
     )

@@ -15,7 +15,7 @@ returns-clause-steps c =
     let cut : lines rest ≡ take end rest ∷ lines (drop (end + 1) rest) = rw (c.line_end-end.ensures.value) (lines_cut rest some) in
     let at : rest ≡ drop place file = c.in_ok-rest.ensures.lookup.0.2 ∙ take_rest file place in
     let behind : drop (end + 1) rest ≡ drop (place + (end + 1)) file = ap (drop (end + 1)) at ∙ drop-drop (end + 1) place file in
-    sym c.self.view_is ∙ ap lines (sym at) ∙ cut ∙ ap (λ l. take end rest ∷ lines l) behind
+    ap lines (sym c.self.view_is) ∙ ap lines (sym at) ∙ cut ∙ ap (λ l. take end rest ∷ lines l) behind
 
 pub returns-clause-goes : goal.returns-clause-goes
 returns-clause-goes c =
