@@ -5,6 +5,7 @@ mod letters;
 pub mod year;
 
 ghost use Rattle.std.specs.Prelude.{◌≡◌};
+ghost use Rattle.register.specs.Shows.{Stands};
 ghost use Rattle.desk.specs.Work.{line_step, WorksFile, WorksDay, LastLineCounts};
 ghost use Rattle.desk.specs.declared.FileError.TheVariants.{TooLong, Memory};
 
@@ -41,10 +42,13 @@ impl From<AllocError> for FileError {
 
 // Works one line.
 pub fn work_line(register: &mut Register, line: &[u8]) -> Result<Answer, Fault>
-    ensures { (register.new, result) ≡ line_step register.old line.now }
+    ensures works { (register.new, result) ≡ line_step register.old line.now }
+    ensures stands { Stands register.old }
 {
+    // asked first for its clause: what is true of every register
+    let state = register.state();
     let call = read_call(line)?;
-    if !suits(call, register.state()) {
+    if !suits(call, state) {
         return Err(Refusal::WrongState.into());
     }
     Ok(register.serve(call)?)
@@ -58,7 +62,10 @@ pub fn work_file(
 ) -> Result<Vec<Result<Answer, Fault>>, FileError>
     ensures works { WorksFile register.old file.now register.new result }
     ensures last_line { LastLineCounts }
+    ensures stands { Stands register.old }
 {
+    // asked for its clause alone: what is true of every register
+    let _ = register.state();
     let lines = Lines::new(file)?;
     let mut answers = Vec::with_capacity(heap, file.len())?;
     for line in lines {

@@ -1,12 +1,13 @@
 -- The business day that opening comes to.
-use Rattle.std.proofs.Common.{◌≡◌, ℕ, ◌≤◌, leb, List, [], ◌∷◌, Some, refl, arith}
+use Rattle.std.proofs.Common.{◌≡◌, ℕ, ◌≤◌, leb, List, [], ◌∷◌, Some, vec_items, refl, arith}
 use Rattle.std.proofs.lemmas.Bool.{cond_both}
 use Rattle.std.proofs.lemmas.Bool.Decides.{nat_tests}
 use Rattle.calendar.specs.declared.Date.{Date}
 use Rattle.calendar.specs.declared.years.Calendar.{Calendar}
 use Rattle.calendar.specs.Days.{RisingAbove, first_from, next_after}
 use Rattle.calendar.specs.Calendars.{days_of, dated}
-use Rattle.calendar.proofs.Laws.{days_rise}
+use Rattle.calendar.proofs.Laws.{days_rise, lawful}
+use Rattle.register.specs.Shows.{Stands}
 
 -- a day that is found is not before the one from which it was looked for
 pub found_later : (n : ℕ) (bs : List ℕ) (d : Date) → dated (first_from n bs) ≡ Some d → n ≤ d.number
@@ -25,3 +26,7 @@ first_day k = go (days_of k) (days_rise k)
     go : (bs : List ℕ) → RisingAbove 0 bs → first_from 0 bs ≡ first_from 1 bs
     go [] r = refl
     go (b ∷ bs) r = grind (arith, nat_tests, r.0)
+
+-- what is true of every register: of its calendar, and of its state
+pub stood : (k : Calendar) (n d : ℕ) → n ≤ 2 → Stands (record { days = days_of k; standing = record { state = n; day = d } })
+stood k n d h = record { days = lawful k.months.first (vec_items k.months.masks); calendar = ∣ (k, refl) ∣₁; state = h }

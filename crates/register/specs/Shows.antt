@@ -1,18 +1,32 @@
 -- What a register shows, and what each call makes of it.
-use Rattle.std.specs.Prelude.{◌≡◌, ℕ, Bool, cond, List, Ok, Err, ◌==◌}
+use Rattle.std.specs.Prelude.{◌≡◌, ℕ, ◌≤◌, Bool, cond, List, Ok, Err, ◌==◌}
+use Rattle.std.specs.Coded.{le_prop}
+use mathlib.Core.Logic.{∥∥₁_prop}
+use Rattle.calendar.specs.declared.years.Calendar.{Calendar}
 use Rattle.refusals.specs.declared.Refusal.TheVariants.{WrongState}
-use Rattle.calendar.specs.Days.{next_after}
+use Rattle.calendar.specs.Days.{LawfulDays, lawful_days_prop, next_after}
 use Rattle.calendar.specs.Calendars.{days_of, dated}
 use Rattle.rulebook.specs.declared.Call.{Call}
 use Rattle.rulebook.specs.declared.Call.TheVariants.{Opening, NewIssue, Placing, Instructing, Cancelling, Blocking, Releasing, Round, Closing, Redeeming, AskingStatus, AskingHolding}
 use Rattle.rulebook.specs.declared.Answer.TheVariants.{Opened, Closed}
 use Rattle.rulebook.specs.Answers.{ending, Reply}
-use Rattle.rulebook.specs.States.{date_of, Standing, shut, opened, closed}
+use Rattle.rulebook.specs.States.{Standing, shut, opened, closed}
 
 -- the calendar's business days, and how the register stands
 pub record View : Type 0 where
   pub days : List ℕ
   pub standing : Standing
+
+-- what is true of every register: its business days rise, each a calendar date, and are those of a calendar, and its state is
+-- one of the three
+pub record Stands (v : View) : Type 0 where
+  pub days : LawfulDays v.days
+  pub calendar : ∥ ((k : Calendar) × (v.days ≡ days_of k)) ∥₁
+  pub state : v.standing.state ≤ 2
+
+-- any two proofs of it are the same, as a ghost field needs
+pub stands_prop : (v : View) → IsProp (Stands v)
+stands_prop v a b = λ i. record { days = lawful_days_prop v.days a.days b.days i; calendar = ∥∥₁_prop a.calendar b.calendar i; state = le_prop a.state b.state i }
 
 -- a call that the state does not take gets 10, and changes nothing
 abbrev pub untaken : View → View × Reply

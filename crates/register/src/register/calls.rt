@@ -7,7 +7,7 @@ ghost use Rattle.calendar.specs.Calendars.{days_of, dated};
 ghost use Rattle.rulebook.specs.States.{new_standing, last_day};
 ghost use Rattle.rulebook.specs.declared.Call.TheVariants.{Opening, Closing};
 ghost use Rattle.rulebook.specs.declared.Answer.TheVariants.{Opened, Closed};
-ghost use Rattle.register.specs.Shows.{Serves};
+ghost use Rattle.register.specs.Shows.{Serves, Stands};
 
 use super::{ON_A_DAY, ON_NO_DAY, Register, SHUT};
 use calendar::{Calendar, Date};
@@ -17,19 +17,24 @@ use rulebook::{Answer, Call, Ending};
 impl Register {
     // A new register is shut, before its first day.
     pub fn new(calendar: Calendar) -> Register
-        ensures { result ≡ record { days = days_of calendar; standing = new_standing } }
+        ensures is { result ≡ record { days = days_of calendar; standing = new_standing } }
+        ensures stands { Stands result }
     {
-        Register {
+        let register = Register {
             calendar,
             state: SHUT,
             day: None,
-        }
+        };
+        register.stands();
+        register
     }
 
     // Opens a shut register on the next business day, or on no day where none is left.
     pub fn open(&mut self) -> Result<Option<Date>, Refusal>
-        ensures { Serves self.old self.new Opening (result_map_both Opened (λ e. e) result) }
+        ensures serves { Serves self.old self.new Opening (result_map_both Opened (λ e. e) result) }
+        ensures stands { Stands self.old }
     {
+        self.stands();
         if self.state != SHUT {
             return Err(Refusal::WrongState);
         }
@@ -58,8 +63,10 @@ impl Register {
 
     // Shuts an open register: the legs settled, and the instructions refused.
     pub fn close(&mut self) -> Result<Ending, Refusal>
-        ensures { Serves self.old self.new Closing (result_map_both Closed (λ e. e) result) }
+        ensures serves { Serves self.old self.new Closing (result_map_both Closed (λ e. e) result) }
+        ensures stands { Stands self.old }
     {
+        self.stands();
         if self.state == SHUT {
             return Err(Refusal::WrongState);
         }
@@ -72,8 +79,10 @@ impl Register {
 
     // One call, whatever it is.
     pub fn serve(&mut self, call: Call) -> Result<Answer, Refusal>
-        ensures { Serves self.old self.new call result }
+        ensures serves { Serves self.old self.new call result }
+        ensures stands { Stands self.old }
     {
+        self.stands();
         match call {
             Call::Opening => Ok(Answer::Opened {
                 today: self.open()?,
@@ -85,8 +94,10 @@ impl Register {
 
     // Ends the register, and answers the last business day on which it was opened, if there was one.
     pub fn finish(self) -> Option<Date>
-        ensures { result ≡ last_day self.standing }
+        ensures last { result ≡ last_day self.standing }
+        ensures stands { Stands self }
     {
+        self.stands();
         let Register {
             calendar: _calendar,
             state: _,

@@ -27,6 +27,7 @@ impl Shut {
     {
         let Shut { mut register } = self;
         let today = register.open().unwrap();
+        register.stands();
         (today, Open { register })
     }
 
@@ -53,6 +54,7 @@ impl Open {
     {
         let Open { mut register } = self;
         let ending = register.close().unwrap();
+        register.stands();
         (ending, Shut { register })
     }
 }
